@@ -1,0 +1,29 @@
+-- How a definition picks a case.
+use Prim.Native.Nat.{ℕ}
+use mathlib.Core.List.{List, [], _∷_}
+use mathlib.Core.Bool.{Bool, true, false, _||_}
+use lib.Dec.{leb, eqb}
+
+-- the first where the test passes, else the second
+abbrev pub pick : {A : Type 0} → Bool → A → A → A
+pick true a b = a
+pick false a b = b
+
+-- both tests pass; the second is not looked at where the first fails
+abbrev pub both : Bool → Bool → Bool
+both true b = b
+both false b = false
+
+-- k is one of these numbers
+abbrev pub among : List ℕ → ℕ → Bool
+among [] k = false
+among (x ∷ xs) k = eqb x k || among xs k
+
+-- the numbers from one to another, both counted in
+infix 80 _‥_
+pub data Range : Type 0 where
+  _‥_ : ℕ → ℕ → Range
+
+-- x is one of them
+abbrev pub within : Range → ℕ → Bool
+within (a ‥ b) x = both (leb a x) (leb x b)

@@ -1,0 +1,164 @@
+-- Laws of rows in a table. Assumes nothing.
+use mathlib.Core.Path.{_≡_, refl, sym, ap, _∙_, subst}
+use mathlib.Core.List.{List, [], _∷_, _++_, append-nil, append-assoc}
+use Prim.Native.Nat.{ℕ, zero, suc, _+_, _-_, _*_, _/_, _≤_, _<_}
+use native.Mathlib.Nat.{mul-add, mul-suc, add-zero}
+use native.Mathlib.Numerals.{towards-suc}
+use native.Mathlib.Omega.{arith}
+use lib.ListN.{length, take, drop, set, getD, List·getD-eq-default, length-append, length-take, length-drop}
+use lib.Seq.{take-take, drop-drop, take-add, take-at, drop-at, sets, sets-eq, length-take-le, take-append-add, getD-take, getD-drop}
+use mathlib.Core.Bool.{Bool, true, false}
+use lib.Dec.{leb}
+use borrow.Author.Tests.{le-leb, lt-leb, leb-true, leb-false}
+use Rattle.table.specs.declared.rows.Row.{Row}
+use Rattle.table.specs.Rows.{row, width, words, capacity, room, noRoom, putRow, rowAt, Filled}
+
+pub length-words : (rs : List Row) → length (words rs) ≡ width * length rs
+unfolding words
+length-words [] = refl
+length-words (r ∷ rs) = omega (arith, length-words rs)
+
+pub words-append : (rs ss : List Row) → words (rs ++ ss) ≡ words rs ++ words ss
+unfolding words
+words-append [] ss = refl
+words-append (r ∷ rs) ss = ap (λ (l : List ℕ). r .kind ∷ r .id ∷ r .a ∷ r .b ∷ l) (words-append rs ss)
+
+-- what two lists agree on up to n + m they agree on from n for m
+drop-take : {A : Type 0} (n m : ℕ) (l : List A) → take m (drop n l) ≡ drop n (take (n + m) l)
+drop-take zero m l = rw native.Mathlib.Nat.zero-add
+drop-take (suc n) m [] = rw (native.Mathlib.Nat.suc-add, lib.Seq.take-nil)
+drop-take (suc n) m (x ∷ xs) = rw native.Mathlib.Nat.suc-add (drop-take n m xs)
+
+below-agree : {A : Type 0} (n m : ℕ) (l k : List A) → take (n + m) l ≡ take (n + m) k → take n l ≡ take n k
+below-agree n m l k e =
+    let h : n ≤ n + m = omega arith in
+    sym (take-take n (n + m) l h) ∙ ap (take n) e ∙ take-take n (n + m) k h
+
+above-agree : {A : Type 0} (n m : ℕ) (l k : List A) → take (n + m) l ≡ take (n + m) k → take m (drop n l) ≡ take m (drop n k)
+above-agree n m l k e = drop-take n m l ∙ ap (drop n) e ∙ sym (drop-take n m k)
+
+-- nothing written
+pub filled-none : (t : List ℕ) (n : ℕ) → Filled t t n []
+unfolding words
+filled-none t n = record { long = refl; kept = refl; rows = refl }
+
+-- what stood below n still does, whatever was written above
+pub filled-kept : {a b : List ℕ} {n : ℕ} {rs : List Row} → Filled a b n rs → Filled a b n []
+unfolding words
+filled-kept f = record { long = f .long; kept = f .kept; rows = refl }
+
+-- what was kept below n + 1 is kept below n
+pub filled-below : {a b : List ℕ} {n : ℕ} {rs : List Row} → Filled a b (n + 1) rs → Filled a b n []
+unfolding words
+filled-below {a} {b} {n} f =
+    let agree : take (width * n + width) b ≡ take (width * n + width) a = rw mul-add at (f .kept) in
+    record { long = f .long; kept = below-agree (width * n) width b a agree; rows = refl }
+
+-- rows, and then rows after them
+pub filled-then : {a b c : List ℕ} {n : ℕ} {rs ss : List Row} → Filled a b n rs → Filled b c (n + length rs) ss → Filled a c n (rs ++ ss)
+filled-then {a} {b} {c} {n} {rs} {ss} f g =
+    let k : ℕ = width * length rs in
+    let agree : take (width * n + width * length rs) c ≡ take (width * n + width * length rs) b = rw mul-add at (g .kept) in
+    record {
+      long = g .long ∙ f .long;
+      kept = below-agree (width * n) (width * length rs) c b agree ∙ f .kept;
+      rows =
+          ap (λ (j : ℕ). take j (drop (width * n) c)) (ap (λ (j : ℕ). width * j) (length-append rs ss) ∙ mul-add width (length rs) (length ss))
+          ∙ take-add (width * length rs) (width * length ss) (drop (width * n) c)
+          ∙ ap (λ (l : List ℕ). l ++ take (width * length ss) (drop (width * length rs) (drop (width * n) c)))
+          (above-agree (width * n) (width * length rs) c b agree ∙ f .rows)
+          ∙ ap (λ (l : List ℕ). words rs ++ take (width * length ss) l)
+          (drop-drop (width * length rs) (width * n) c ∙ ap (λ (j : ℕ). drop j c) (sym (mul-add width n (length rs))))
+          ∙ ap (λ (l : List ℕ). words rs ++ l) (g .rows)
+          ∙ sym (words-append rs ss);
+    }
+
+pub length-putRow : (t : List ℕ) (n : ℕ) (r : Row) → width * n + width ≤ length t → length (putRow t n r) ≡ length t
+unfolding putRow words
+length-putRow t n r h = simp (length-append, length-take, length-drop) (omega arith)
+
+-- what the stores of a row's words leave
+pub put-row : (t : List ℕ) (n : ℕ) (r : Row) → width * n + width ≤ length t → set (set (set (set t (width * n) (r .kind)) (width * n + 1) (r .id)) (width * n + 2) (r .a)) (width * n + 3) (r .b) ≡ putRow t n r
+unfolding putRow words
+put-row t n r h =
+    simp towards-suc
+    (simp towards-suc at
+    (sets-eq (r .kind ∷ r .id ∷ r .a ∷ r .b ∷ []) t (width * n) h ∙ append-assoc (take (width * n) t) (r .kind ∷ r .id ∷ r .a ∷ r .b ∷ []) (drop (width * n + width) t)))
+
+-- a row at n, below rows that stand from n + 1 on
+pub filled-row : {a b : List ℕ} {n : ℕ} {rs : List Row} (r : Row) → width * n + width ≤ length a → Filled a b (n + 1) rs → Filled a (putRow b n r) n (r ∷ rs)
+unfolding putRow words
+filled-row {a} {b} {n} {rs} r h f =
+    let hb : width * n + width ≤ length b = omega (arith, f .long) in
+    let e : length (take (width * n) b) ≡ width * n = length-take-le (width * n) b (omega arith) in
+    let agree : take (width * n + width) b ≡ take (width * n + width) a = rw mul-add at (f .kept) in
+    let below : take (width * n) b ≡ take (width * n) a = below-agree (width * n) width b a agree in
+    let above : take (width * length rs) (drop (width * n + width) b) ≡ words rs = rw mul-add at (f .rows) in
+    record {
+      long = length-putRow b n r hb ∙ f .long;
+      kept = take-at (take (width * n) b) _ (width * n) e ∙ below;
+      rows =
+          ap (take (width * suc (length rs))) (drop-at (take (width * n) b) (words (r ∷ []) ++ drop (width * n + width) b) (width * n) e)
+          ∙ ap (λ (j : ℕ). take j (words (r ∷ []) ++ drop (width * n + width) b)) (four (length rs))
+          ∙ ap (λ (l : List ℕ). r .kind ∷ r .id ∷ r .a ∷ r .b ∷ l) above;
+    }
+  where
+    four : (k : ℕ) → width * suc k ≡ suc (suc (suc (suc (width * k))))
+    four k = omega arith
+
+-- one row
+pub filled-one : (t : List ℕ) (n : ℕ) (r : Row) → width * n + width ≤ length t → Filled t (putRow t n r) n (r ∷ [])
+filled-one t n r h = filled-row r h (filled-none t (n + 1))
+
+-- where there is room, and where there is none
+module _ (t : List ℕ) (n : ℕ) (f : Bool) (is : f ≡ noRoom t n) where
+  pub full-none : f ≡ true → room t n ≡ 0
+  unfolding room noRoom
+  full-none e = omega (arith, leb-true (capacity t) n (sym is ∙ e))
+
+  below : f ≡ false → n < capacity t
+  unfolding noRoom
+  below e = leb-false (capacity t) n (sym is ∙ e)
+
+  pub full-more : f ≡ false → room t n ≡ suc (room t (n + 1))
+  unfolding room
+  full-more e = omega (arith, below e)
+
+  -- a row that has a place has all its words
+  pub full-fits : f ≡ false → width * n + width ≤ length t
+  full-fits e = omega (arith, below e)
+
+pub room-used : (a b : List ℕ) (n k : ℕ) → length b ≡ length a → room a n - k ≡ room b (n + k)
+unfolding room
+room-used a b n k e = omega arith
+
+-- the rows are in the table
+pub filled-fits : {a b : List ℕ} {n : ℕ} {rs : List Row} → Filled a b n rs → width * length rs ≤ length a - width * n
+filled-fits {a} {b} {n} {rs} f =
+    omega (arith, simp (length-take, length-drop, length-words) at (ap length (f .rows)), f .long)
+
+-- reading a row back
+module _ (t : List ℕ) (n : ℕ) where
+  pub row-none : capacity t ≤ n → row 0 0 0 0 ≡ rowAt t n
+  unfolding rowAt noRoom
+  row-none h = rw (le-leb (capacity t) n h)
+
+  pub row-some : n < capacity t → row (getD t (width * n) 0) (getD t (width * n + 1) 0) (getD t (width * n + 2) 0) (getD t (width * n + 3) 0) ≡ rowAt t n
+  unfolding rowAt noRoom
+  row-some h = rw (lt-leb (capacity t) n h)
+
+-- the first of the rows that were filled in
+pub filled-first : {a b : List ℕ} {n : ℕ} {r : Row} {rs : List Row} → Filled a b n (r ∷ rs) → rowAt b n ≡ r
+unfolding words
+filled-first {a} {b} {n} {r} {rs} f =
+    let l : width * suc (length rs) ≤ length a - width * n = filled-fits f in
+    let w0 : getD b (width * n) 0 ≡ r .kind = rw add-zero at (word 0 (omega arith)) in
+    let w1 : getD b (width * n + 1) 0 ≡ r .id = word 1 (omega arith) in
+    let w2 : getD b (width * n + 2) 0 ≡ r .a = word 2 (omega arith) in
+    let w3 : getD b (width * n + 3) 0 ≡ r .b = word 3 (omega arith) in
+    sym (row-some b n (omega (arith, f .long))) ∙ rw (w0, w1, w2, w3)
+  where
+    word : (k : ℕ) → k < 4 → getD b (width * n + k) 0 ≡ getD (words (r ∷ rs)) k 0
+    word k h =
+        let j : k < width * suc (length rs) = omega arith in
+        sym (getD-take (width * suc (length rs)) (drop (width * n) b) k 0 j ∙ getD-drop (width * n) b k 0) ∙ ap (λ (l : List ℕ). getD l k 0) (f .rows)

@@ -1,0 +1,14 @@
+use borrow.Author.Needs.{needs}
+use Rattle.table.specs.Rows.{noRoom}
+use Rattle.table.proofs.rows.is_full.Statement.{statement}
+use Rattle.table.proofs.rows.is_full.Tie as tie
+use Rattle.table.proofs.rows.is_full.Reads as reads
+use Rattle.table.proofs.rows.is_full.Lts as lts
+
+-- src/rows.rt:18:1
+returns : tie.Need-returns
+unfolding noRoom
+returns c = search needs
+
+pub is-full-spec : {M : Type 1} → statement M
+is-full-spec = tie.close (tie.spec returns)

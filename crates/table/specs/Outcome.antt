@@ -1,0 +1,91 @@
+-- What reading a value comes to, and how outcomes are put together.
+use Prim.Native.Nat.{ℕ, zero, suc, _+_}
+use mathlib.Core.Path.{_≡_}
+use mathlib.Core.Bool.{Bool, true, false}
+use mathlib.Core.List.{List, [], _∷_, _++_}
+use lib.ListN.{length}
+use Rattle.wire.specs.declared.cursor.Cursor.{Cursor}
+use Rattle.wire.specs.declared.cursor.Shortage.{Shortage}
+use Rattle.wire.specs.Place.{broughtBack}
+use Rattle.table.specs.declared.rows.Row.{Row}
+use Rattle.table.specs.declared.out.Refusal.{Refusal}
+use Rattle.table.specs.declared.out.Refusal.the-variants.{InvalidData, InvalidType, Unsupported, TooDeep, NoRoom, NoDiscriminator}
+use Rattle.table.specs.declared.out.Out.{Out}
+use Rattle.table.specs.declared.out.Out.the-variants.{Read, Short, Refused}
+use Rattle.table.specs.Rows.{row, Filled}
+
+-- read: the place after it, and its rows; short: too few bytes (1); refused: any other number
+pub data Outcome : Type 0 where
+  read : Cursor → List Row → Outcome
+  short : Shortage → Outcome
+  refused : Refusal → Outcome
+
+-- "Numbers given back"
+unfoldable pub refusalNumber : Refusal → ℕ
+refusalNumber InvalidData = 2
+refusalNumber InvalidType = 3
+refusalNumber Unsupported = 11
+refusalNumber TooDeep = 12
+refusalNumber NoRoom = 13
+refusalNumber NoDiscriminator = 14
+
+unfoldable pub numberOf : Outcome → ℕ
+numberOf (read c rs) = 0
+numberOf (short x) = 1
+numberOf (refused k) = refusalNumber k
+
+-- ---- how outcomes are put together
+
+-- "13 NoRoom: the next row has no place"
+unfoldable pub roomFor : ℕ → Outcome → Outcome
+roomFor zero o = refused NoRoom
+roomFor (suc k) o = o
+
+-- rows that stand before those of an outcome
+unfoldable pub prepend : List Row → Outcome → Outcome
+prepend rs (read c more) = read c (rs ++ more)
+prepend rs (short x) = short x
+prepend rs (refused k) = refused k
+
+-- one value and then the rest, which is told the place and how many rows were used
+unfoldable pub andThen : Outcome → (Cursor → ℕ → Outcome) → Outcome
+andThen (read c rs) rest = prepend rs (rest c (length rs))
+andThen (short x) rest = short x
+andThen (refused k) rest = refused k
+
+-- the same, but where the flag says so a value with too few bytes ends the run as read, and keeps no row
+unfoldable pub orEndIf : Bool → Outcome → (Cursor → ℕ → Outcome) → Outcome
+orEndIf flag (read c rs) rest = prepend rs (rest c (length rs))
+orEndIf true (short x) rest = read (x .at) []
+orEndIf false (short x) rest = short x
+orEndIf flag (refused k) rest = refused k
+
+-- "Kinds 21 to 23: a type index, b all rows beneath, at any depth."
+unfoldable pub closed : ℕ → ℕ → ℕ → Outcome → Outcome
+closed kind id type (read c rs) = read c (row kind id type (length rs) ∷ rs)
+closed kind id type (short x) = short x
+closed kind id type (refused k) = refused k
+
+-- "position and origin always come back"
+unfoldable pub backTo : Cursor → Outcome → Outcome
+backTo c (read d rs) = read c rs
+backTo c (short x) = short (broughtBack x c)
+backTo c (refused k) = refused k
+
+-- ---- what the code answers for an outcome, and what it leaves in the table
+
+-- after n rows
+unfoldable pub answer : ℕ → Outcome → Out
+answer n (read c rs) = Read c (n + length rs)
+answer n (short x) = Short x
+answer n (refused k) = Refused k
+
+-- "A member whose reading fails keeps no row."
+unfoldable pub rowsOf : Outcome → List Row
+rowsOf (read c rs) = rs
+rowsOf (short x) = []
+rowsOf (refused k) = []
+
+pub record Done (o : Outcome) (n : ℕ) (before after : List ℕ) (r : Out) : Type 0 where
+  pub answered : r ≡ answer n o
+  pub table : Filled before after n (rowsOf o)

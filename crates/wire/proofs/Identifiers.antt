@@ -1,0 +1,107 @@
+-- The ten identifiers: what the fixed strings tell, compared, is what document 01 says of the two bytes. Assumes nothing.
+use Prim.Native.Nat.{ℕ, _≤_, _<_}
+use mathlib.Core.Path.{_≡_, refl, sym, _∙_}
+use mathlib.Core.Bool.{Bool, true, false, _||_, _&&_}
+use mathlib.Core.List.{List, [], _∷_}
+use native.Mathlib.Omega.{arith}
+use lib.ListN.{getD}
+use lib.Dec.{ltb, eqb}
+use borrow.Author.Tests.{ltb-true, ltb-false, eq-eqb, eqb-true}
+use Rattle.ground.specs.Choice.{both}
+use Rattle.ground.proofs.Tests.{and-both, below, above}
+use Rattle.wire.specs.Identifier.{settingsOf, sameBytes}
+use Rattle.wire.specs.declared.settings.Representation.{Representation}
+use Rattle.wire.specs.declared.settings.Representation.the-variants.{Unknown}
+
+pub same-is : (a b : List ℕ) → (eqb (getD a 0 0) (getD b 0 0) && eqb (getD a 1 0) (getD b 1 0)) ≡ sameBytes a b
+unfolding sameBytes
+same-is a b = and-both (eqb (getD a 0 0) (getD b 0 0)) (eqb (getD a 1 0) (getD b 1 0))
+
+-- a string whose first byte is 0
+abbrev pub string : ℕ → List ℕ
+string k = 0 ∷ k ∷ []
+
+-- the second byte, where the first is 0
+module _ (id : List ℕ) (k : ℕ) where
+  abbrev first : ℕ
+  first = getD id 0 0
+
+  abbrev second : ℕ
+  second = getD id 1 0
+
+  is-string : sameBytes id (string k) ≡ true → settingsOf 0 k ≡ settingsOf (getD id 0 0) (getD id 1 0)
+  unfolding sameBytes
+  is-string h = go (eqb first 0) (eqb second k) refl refl h
+    where
+      go : (x y : Bool) → eqb first 0 ≡ x → eqb second k ≡ y → both x y ≡ true → settingsOf 0 k ≡ settingsOf first second
+      go true true e f t = rw (eqb-true first 0 e, eqb-true second k f)
+      go true false e f t = absurd (let z : _≡_ {A = ℕ} 0 1 = cc in omega arith)
+      go false y e f t = absurd (let z : _≡_ {A = ℕ} 0 1 = cc in omega arith)
+
+  no-string : getD id 0 0 ≡ 0 → sameBytes id (string k) ≡ false → getD id 1 0 ≡ k → ⊥
+  unfolding sameBytes
+  no-string e h f = let t : both (eqb first 0) (eqb second k) ≡ true = rw (eq-eqb first 0 e, eq-eqb second k f) in
+      let z : _≡_ {A = ℕ} 0 1 = cc in omega arith
+
+past3 : (b : ℕ) → (b ≡ 0 → ⊥) → (b ≡ 1 → ⊥) → (b ≡ 2 → ⊥) → (b ≡ 3 → ⊥) → 3 < b
+past3 b n0 n1 n2 n3 = omega arith
+
+past11 : (b : ℕ) → 6 ≤ b → (b ≡ 6 → ⊥) → (b ≡ 7 → ⊥) → (b ≡ 8 → ⊥) → (b ≡ 9 → ⊥) → (b ≡ 10 → ⊥) → (b ≡ 11 → ⊥) → 11 < b
+past11 b h n6 n7 n8 n9 n10 n11 = omega arith
+
+-- a second byte that is none of the ten
+outside : (b : ℕ) → (b ≡ 0 → ⊥) → (b ≡ 1 → ⊥) → (b ≡ 2 → ⊥) → (b ≡ 3 → ⊥) → (b ≡ 6 → ⊥) → (b ≡ 7 → ⊥) → (b ≡ 8 → ⊥) → (b ≡ 9 → ⊥) → (b ≡ 10 → ⊥) → (b ≡ 11 → ⊥)
+    → Unknown ≡ settingsOf 0 b
+unfolding settingsOf
+outside b n0 n1 n2 n3 n6 n7 n8 n9 n10 n11 = go (ltb b 6) refl
+  where
+    go : (t : Bool) → ltb b 6 ≡ t → Unknown ≡ settingsOf 0 b
+    go true h = rw (above 0 3 b (past3 b n0 n1 n2 n3), below 6 11 b (ltb-true b 6 h))
+    go false h = rw (above 0 3 b (past3 b n0 n1 n2 n3), above 6 11 b (past11 b (ltb-false b 6 h) n6 n7 n8 n9 n10 n11))
+
+-- one of two tests passes; neither does
+or-true : (A : Type 0) (x y : Bool) → (x ≡ true → A) → (y ≡ true → A) → (x || y) ≡ true → A
+or-true A true y f g h = f refl
+or-true A false y f g h = g h
+
+or-left : (x y : Bool) → (x || y) ≡ false → x ≡ false
+or-left true y h = h
+or-left false y h = refl
+
+or-right : (x y : Bool) → (x || y) ≡ false → y ≡ false
+or-right true y h = absurd (let z : _≡_ {A = ℕ} 0 1 = cc in omega arith)
+or-right false y h = h
+
+module _ (id : List ℕ) where
+  -- two or three strings that name the same
+  pub known : (p q : ℕ) (r : Representation) → settingsOf 0 p ≡ r → settingsOf 0 q ≡ r → (sameBytes id (string p) || sameBytes id (string q)) ≡ true → r ≡ settingsOf (getD id 0 0) (getD id 1 0)
+  known p q r e f h = or-true (r ≡ settingsOf (getD id 0 0) (getD id 1 0)) (sameBytes id (string p)) (sameBytes id (string q)) (λ t. sym e ∙ is-string id p t) (λ t. sym f ∙ is-string id q t) h
+
+  pub known3 : (o p q : ℕ) (r : Representation) (x y : Bool) → x ≡ sameBytes id (string o) → y ≡ (sameBytes id (string p) || sameBytes id (string q))
+      → settingsOf 0 o ≡ r → settingsOf 0 p ≡ r → settingsOf 0 q ≡ r → (x || y) ≡ true → r ≡ settingsOf (getD id 0 0) (getD id 1 0)
+  known3 o p q r x y a b d e f h = or-true (r ≡ settingsOf (getD id 0 0) (getD id 1 0)) x y (λ t. sym d ∙ is-string id o (sym a ∙ t)) (λ t. known p q r e f (sym b ∙ t)) h
+
+  -- none of the ten
+  pub unknown : (v w x y z u : Bool)
+      → v ≡ (sameBytes id (string 0) || sameBytes id (string 2)) → w ≡ (sameBytes id (string 1) || sameBytes id (string 3))
+      → x ≡ sameBytes id (string 6) → y ≡ (sameBytes id (string 8) || sameBytes id (string 10))
+      → z ≡ sameBytes id (string 7) → u ≡ (sameBytes id (string 9) || sameBytes id (string 11))
+      → v ≡ false → w ≡ false → (x || y) ≡ false → (z || u) ≡ false → Unknown ≡ settingsOf (getD id 0 0) (getD id 1 0)
+  unfolding settingsOf
+  unknown v w x y z u hv hw hx hy hz hu fv fw fx fz = go (eqb (getD id 0 0) 0) refl
+    where
+      go : (t : Bool) → eqb (getD id 0 0) 0 ≡ t → Unknown ≡ settingsOf (getD id 0 0) (getD id 1 0)
+      go false e = rw e
+      go true e =
+          let a = eqb-true (getD id 0 0) 0 e in
+          let n0 = no-string id 0 a (or-left _ (sameBytes id (string 2)) (sym hv ∙ fv)) in
+          let n2 = no-string id 2 a (or-right (sameBytes id (string 0)) _ (sym hv ∙ fv)) in
+          let n1 = no-string id 1 a (or-left _ (sameBytes id (string 3)) (sym hw ∙ fw)) in
+          let n3 = no-string id 3 a (or-right (sameBytes id (string 1)) _ (sym hw ∙ fw)) in
+          let n6 = no-string id 6 a (sym hx ∙ or-left x y fx) in
+          let n8 = no-string id 8 a (or-left _ (sameBytes id (string 10)) (sym hy ∙ or-right x y fx)) in
+          let n10 = no-string id 10 a (or-right (sameBytes id (string 8)) _ (sym hy ∙ or-right x y fx)) in
+          let n7 = no-string id 7 a (sym hz ∙ or-left z u fz) in
+          let n9 = no-string id 9 a (or-left _ (sameBytes id (string 11)) (sym hu ∙ or-right z u fz)) in
+          let n11 = no-string id 11 a (or-right (sameBytes id (string 9)) _ (sym hu ∙ or-right z u fz)) in
+          rw a (outside (getD id 1 0) n0 n1 n2 n3 n6 n7 n8 n9 n10 n11)

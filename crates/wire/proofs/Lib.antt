@@ -1,0 +1,6 @@
+pub mod Moves
+pub mod Digits
+pub mod Numbers
+pub mod Words
+pub mod Identifiers
+mod Examples

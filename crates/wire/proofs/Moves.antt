@@ -1,0 +1,81 @@
+-- Laws of a cursor's moves. Assumes nothing.
+use Prim.Native.Nat.{ℕ, _<_, _≤_, _+_, _-_, _%_}
+use mathlib.Core.Path.{_≡_, refl, ap, _∙_}
+use mathlib.Core.Bool.{Bool, true, false}
+use mathlib.Core.List.{List}
+use native.Mathlib.Omega.{arith}
+use native.Mathlib.Nat.{mod-lt, mod-self, zero-mod, sub-zero, sub-eq-zero-of-le, le-of-lt}
+use lib.ListN.{length}
+use lib.Dec.{leb}
+use borrow.Author.Tests.{le-leb, lt-leb, leb-true, leb-false}
+use Rattle.wire.specs.Place.{moved, shortAt, alignmentOf, paddingOf, seekTo, alignTo}
+use Rattle.wire.specs.declared.settings.Version.{Version}
+use Rattle.wire.specs.declared.settings.Version.the-variants.{Xcdr1, Xcdr2}
+use Rattle.wire.specs.declared.cursor.Cursor.{Cursor}
+use Rattle.wire.specs.declared.cursor.Shortage.{Shortage}
+use Rattle.wire.specs.declared.cursor.Place.the-variants.{At, Short}
+
+pub alignment-own : (v : Version) (n : ℕ) → v ≡ Xcdr1 → n ≡ alignmentOf v n
+unfolding alignmentOf
+alignment-own v n e = rw e
+
+pub alignment-small : (v : Version) (n : ℕ) → v ≡ Xcdr2 → n ≤ 4 → n ≡ alignmentOf v n
+unfolding alignmentOf
+alignment-small v n e h = rw e (omega arith)
+
+pub alignment-cap : (v : Version) (n : ℕ) → v ≡ Xcdr2 → 4 < n → 4 ≡ alignmentOf v n
+unfolding alignmentOf
+alignment-cap v n e h = rw e (omega arith)
+
+-- what has a size has an alignment
+pub alignment-some : (v : Version) (n a : ℕ) → 0 < n → a ≡ alignmentOf v n → 0 < a
+unfolding alignmentOf
+alignment-some Xcdr1 n a h e = omega arith
+alignment-some Xcdr2 n a h e = omega arith
+
+-- where the origin lies ahead, a cut-off difference is 0
+pub padding-none : (c : Cursor) (a : ℕ) → c .pos < c .origin → 0 ≡ paddingOf c a
+unfolding paddingOf
+padding-none c a h = simp (sub-eq-zero-of-le (le-of-lt h), zero-mod, sub-zero, mod-self)
+
+pub rest-below : (x a : ℕ) → 0 < a → x % a ≤ a
+rest-below x a h = le-of-lt (mod-lt x h)
+
+module _ (s : List ℕ) (c : Cursor) (n : ℕ) where
+  pub seek-at : c .pos + n ≤ length s → At (moved c n) ≡ seekTo s c n
+  unfolding seekTo
+  seek-at h = rw (le-leb _ _ h)
+
+  pub seek-short : length s < c .pos + n → Short (shortAt c) ≡ seekTo s c n
+  unfolding seekTo
+  seek-short h = rw (lt-leb _ _ h)
+
+-- two constructors are never equal
+apart : (x : Shortage) (d : Cursor) → Short x ≡ At d → ⊥
+apart x d e = let z : _≡_ {A = ℕ} 0 1 = cc in omega arith
+
+apart' : (x : Shortage) (d : Cursor) → At d ≡ Short x → ⊥
+apart' x d e = let z : _≡_ {A = ℕ} 0 1 = cc in omega arith
+
+-- what a finished seek tells: the bytes were there, and the cursor is past them
+pub seek-inv : (s : List ℕ) (c : Cursor) (n : ℕ) (d : Cursor) → seekTo s c n ≡ At d → (c .pos + n ≤ length s) × (moved c n ≡ d)
+seek-inv s c n d e = go (leb (c .pos + n) (length s)) refl
+  where
+    go : (t : Bool) → leb (c .pos + n) (length s) ≡ t → (c .pos + n ≤ length s) × (moved c n ≡ d)
+    go true h = (leb-true _ _ h, (let f : At (moved c n) ≡ At d = seek-at s c n (leb-true _ _ h) ∙ e in cc))
+    go false h = absurd (apart (shortAt c) d (seek-short s c n (leb-false _ _ h) ∙ e))
+
+-- what a short seek tells: the bytes were not there, and the cursor is kept
+pub seek-short-inv : (s : List ℕ) (c : Cursor) (n : ℕ) (x : Shortage) → seekTo s c n ≡ Short x → (length s < c .pos + n) × (shortAt c ≡ x)
+seek-short-inv s c n x e = go (leb (c .pos + n) (length s)) refl
+  where
+    go : (t : Bool) → leb (c .pos + n) (length s) ≡ t → (length s < c .pos + n) × (shortAt c ≡ x)
+    go true h = absurd (apart' x (moved c n) (seek-at s c n (leb-true _ _ h) ∙ e))
+    go false h = (leb-false _ _ h, (let f : Short (shortAt c) ≡ Short x = seek-short s c n (leb-false _ _ h) ∙ e in cc))
+
+-- a finished alignment moves on, not past the end, and keeps the origin
+pub align-inv : (s : List ℕ) (v : Version) (c : Cursor) (size : ℕ) (d : Cursor) → alignTo s v c size ≡ At d → (c .pos ≤ d .pos) × (d .pos ≤ length s) × (d .origin ≡ c .origin)
+unfolding alignTo
+align-inv s v c size d f =
+    let k = seek-inv s c (paddingOf c (alignmentOf v size)) d f in
+    (omega (arith, k .0, ap (λ (y : Cursor). y .pos) (k .1)), omega (arith, k .0, ap (λ (y : Cursor). y .pos) (k .1)), omega (arith, ap (λ (y : Cursor). y .origin) (k .1)))

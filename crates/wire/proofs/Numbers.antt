@@ -1,0 +1,133 @@
+-- Laws of the numbers that are read: one for each way through a read, and what a finished read tells. Assumes nothing.
+use Prim.Native.Nat.{ℕ, _<_, _≤_, _+_, _*_, _^_}
+use mathlib.Core.Path.{_≡_, refl, sym, ap, _∙_}
+use mathlib.Core.Bool.{true, false}
+use mathlib.Core.List.{List}
+use native.Mathlib.Omega.{arith}
+use lib.ListN.{length}
+use borrow.Author.Tests.{ne-eqb}
+use Rattle.wire.specs.Place.{moved, seekTo, alignTo}
+use Rattle.wire.specs.Number.{numberAt, onBytes, numberHere, onAligned, readNumber, halvesOf, float128Here, readFloat128, booleanIn, onByte, readBoolean, HereIs, ReadIs}
+use Rattle.wire.specs.declared.settings.ByteOrder.{ByteOrder}
+use Rattle.wire.specs.declared.settings.ByteOrder.the-variants.{BigEndian, LittleEndian}
+use Rattle.wire.specs.declared.settings.Settings.{Settings}
+use Rattle.wire.specs.declared.cursor.Cursor.{Cursor}
+use Rattle.wire.specs.declared.cursor.Shortage.{Shortage}
+use Rattle.wire.specs.declared.cursor.Place.{Place}
+use Rattle.wire.specs.declared.cursor.Place.the-variants as place
+use Rattle.wire.specs.declared.number.Number.{Number}
+use Rattle.wire.specs.declared.number.Number.the-variants as number
+use Rattle.wire.specs.declared.number.Float128.{Float128}
+use Rattle.wire.specs.declared.number.Float128.the-variants as float128
+use Rattle.wire.specs.declared.number.Boolean.{Boolean}
+use Rattle.wire.specs.declared.number.Boolean.the-variants as boolean
+use Rattle.wire.proofs.Moves.{seek-inv, align-inv}
+use Rattle.wire.proofs.Digits.{be-words, le-words, low-word, high-word}
+
+-- where the cursor stands
+module _ (s : List ℕ) (o : ByteOrder) (c : Cursor) (w : ℕ) (r : Place) (is : r ≡ seekTo s c w) where
+  pub here-short : (x : Shortage) → r ≡ place.Short x → HereIs s o c w (number.Short x)
+  unfolding numberHere onBytes
+  here-short x e = record { is = rw (sym is ∙ e); small = tt }
+
+  pub here-fits : (d : Cursor) → r ≡ place.At d → c .pos + w ≤ length s
+  here-fits d e = seek-inv s c w d (sym is ∙ e) .0
+
+  pub here-got : (d : Cursor) (v : ℕ) → r ≡ place.At d → v ≡ numberAt o 0 s (c .pos) w → v < 256 ^ w → HereIs s o c w (number.Got v d)
+  unfolding numberHere onBytes
+  here-got d v e f h = record { is = rw (sym is ∙ e, f); small = h }
+
+-- the two ways that an alignment goes
+module _ (s : List ℕ) (set : Settings) (c : Cursor) (w : ℕ) (r : Place) (is : r ≡ alignTo s (set .version) c w) where
+  pub read-short : (x : Shortage) → r ≡ place.Short x → ReadIs s set c w (number.Short x)
+  unfolding readNumber onAligned
+  read-short x e = record { is = rw (sym is ∙ e); small = tt }
+
+  pub read-at : (d : Cursor) (n : Number) → r ≡ place.At d → HereIs s (set .order) d w n → ReadIs s set c w n
+  unfolding readNumber onAligned
+  read-at d n e h = record { is = rw (sym is ∙ e) (h .is); small = h .small }
+
+-- 16 bytes by their two words: both are in the data
+module _ (s : List ℕ) (c : Cursor) (r : Place) (is : r ≡ seekTo s c 16) (d : Cursor) (e : r ≡ place.At d) where
+  pub here16-first : c .pos + 8 ≤ length s
+  here16-first = omega (arith, seek-inv s c 16 d (sym is ∙ e) .0)
+
+  pub here16-second : c .pos + 8 + 8 ≤ length s
+  here16-second = omega (arith, seek-inv s c 16 d (sym is ∙ e) .0)
+
+module _ (s : List ℕ) (o : ByteOrder) (c : Cursor) (r : Place) (is : r ≡ seekTo s c 16) where
+  pub here16-short : (x : Shortage) → r ≡ place.Short x → float128.Short x ≡ float128Here s o c
+  unfolding float128Here halvesOf numberHere onBytes
+  here16-short x e = rw (sym is ∙ e)
+
+  halves : (d : Cursor) (high low : ℕ) → r ≡ place.At d → high * 2 ^ 64 + low ≡ numberAt o 0 s (c .pos) 16 → low < 2 ^ 64 → float128.Got low high d ≡ float128Here s o c
+  unfolding float128Here halvesOf numberHere onBytes
+  halves d high low e f h = rw (sym is ∙ e, ← f, low-word high low h, high-word high low h)
+
+  pub here16-big : (d : Cursor) (a b : ℕ) → r ≡ place.At d → o ≡ BigEndian → a ≡ numberAt o 0 s (c .pos) 8 → b ≡ numberAt o 0 s (c .pos + 8) 8 → b < 256 ^ 8 → float128.Got b a d ≡ float128Here s o c
+  here16-big d a b e k f g h = halves d a b e (rw k (be-words s (c .pos) a b (rw k at f) (rw k at g))) h
+
+  pub here16-little : (d : Cursor) (a b : ℕ) → r ≡ place.At d → o ≡ LittleEndian → a ≡ numberAt o 0 s (c .pos) 8 → b ≡ numberAt o 0 s (c .pos + 8) 8 → a < 256 ^ 8 → float128.Got a b d ≡ float128Here s o c
+  here16-little d a b e k f g h = halves d b a e (rw k (le-words s (c .pos) a b (rw k at f) (rw k at g))) h
+
+module _ (s : List ℕ) (set : Settings) (c : Cursor) (r : Place) (is : r ≡ alignTo s (set .version) c 16) where
+  pub read16-short : (x : Shortage) → r ≡ place.Short x → float128.Short x ≡ readFloat128 s set c
+  unfolding readFloat128 halvesOf readNumber onAligned
+  read16-short x e = rw (sym is ∙ e)
+
+  pub read16-at : (d : Cursor) (f : Float128) → r ≡ place.At d → f ≡ float128Here s (set .order) d → f ≡ readFloat128 s set c
+  unfolding readFloat128 readNumber onAligned float128Here
+  read16-at d f e g = rw (sym is ∙ e) g
+
+-- a byte that is to be a boolean
+pub boolean-no : (v : ℕ) (c : Cursor) → v ≡ 0 → boolean.Got false c ≡ booleanIn v c
+unfolding booleanIn
+boolean-no v c e = rw e
+
+pub boolean-yes : (v : ℕ) (c : Cursor) → v ≡ 1 → boolean.Got true c ≡ booleanIn v c
+unfolding booleanIn
+boolean-yes v c e = rw e
+
+pub boolean-bad : (v : ℕ) (c : Cursor) → (v ≡ 0 → ⊥) → (v ≡ 1 → ⊥) → boolean.Bad ≡ booleanIn v c
+unfolding booleanIn
+boolean-bad v c p q = rw (ne-eqb v 0 p, ne-eqb v 1 q)
+
+module _ (s : List ℕ) (set : Settings) (c : Cursor) (n : Number) (is : ReadIs s set c 1 n) where
+  pub boolean-short : (x : Shortage) → n ≡ number.Short x → boolean.Short x ≡ readBoolean s set c
+  unfolding readBoolean onByte
+  boolean-short x e = rw (sym (is .is) ∙ e)
+
+  pub boolean-got : (v : ℕ) (d : Cursor) (b : Boolean) → n ≡ number.Got v d → b ≡ booleanIn v d → b ≡ readBoolean s set c
+  unfolding readBoolean onByte
+  boolean-got v d b e f = rw (sym (is .is) ∙ e) f
+
+-- What a finished read tells the loops above: it moved on by the width at least, not past the end, and kept the origin.
+pub record Moved (s : List ℕ) (c : Cursor) (w : ℕ) (d : Cursor) : Type 0 where
+  pub on : c .pos + w ≤ d .pos
+  pub inside : d .pos ≤ length s
+  pub kept : d .origin ≡ c .origin
+
+apart : (x : Shortage) (v : ℕ) (d : Cursor) → number.Short x ≡ number.Got v d → ⊥
+apart x v d e = let z : _≡_ {A = ℕ} 0 1 = cc in omega arith
+
+module _ (s : List ℕ) where
+  here-inv : (o : ByteOrder) (p w v : ℕ) (c d : Cursor) (r : Place) → seekTo s c w ≡ r → onBytes s o p w r ≡ number.Got v d → Moved s c w d
+  unfolding onBytes
+  here-inv o p w v c d (place.Short x) f e = absurd (apart x v d e)
+  here-inv o p w v c d (place.At y) f e =
+      let g : y ≡ d = cc in
+      let k = seek-inv s c w y f in
+      let h : moved c w ≡ d = k .1 ∙ g in
+      record { on = omega (arith, ap (λ (z : Cursor). z .pos) h); inside = omega (arith, k .0, ap (λ (z : Cursor). z .pos) h); kept = sym (ap (λ (z : Cursor). z .origin) h) }
+
+  aligned-inv : (o : ByteOrder) (u : Settings) (w v : ℕ) (c d : Cursor) (r : Place) → alignTo s (u .version) c w ≡ r → onAligned s o w r ≡ number.Got v d → Moved s c w d
+  unfolding onAligned numberHere
+  aligned-inv o u w v c d (place.Short x) f e = absurd (apart x v d e)
+  aligned-inv o u w v c d (place.At y) f e =
+      let a = align-inv s (u .version) c w y f in
+      let b = here-inv o (y .pos) w v y d (seekTo s y w) refl e in
+      record { on = omega (arith, a .0, b .on); inside = b .inside; kept = b .kept ∙ a .2 }
+
+  pub read-inv : (set : Settings) (c : Cursor) (w v : ℕ) (d : Cursor) → readNumber s set c w ≡ number.Got v d → Moved s c w d
+  unfolding readNumber
+  read-inv set c w v d e = aligned-inv (set .order) set w v c d (alignTo s (set .version) c w) refl e

@@ -1,0 +1,31 @@
+-- The ten representation identifiers.
+use Prim.Native.Nat.{ℕ, _%_}
+use mathlib.Core.List.{List}
+use mathlib.Core.Bool.{Bool}
+use lib.ListN.{getD}
+use lib.Dec.{eqb}
+use Rattle.ground.specs.Choice.{pick, both, _‥_, within}
+use Rattle.wire.specs.declared.settings.ByteOrder.{ByteOrder}
+use Rattle.wire.specs.declared.settings.ByteOrder.the-variants.{BigEndian, LittleEndian}
+use Rattle.wire.specs.declared.settings.Version.{Version}
+use Rattle.wire.specs.declared.settings.Version.the-variants.{Xcdr1, Xcdr2}
+use Rattle.wire.specs.declared.settings.Settings.{Settings}
+use Rattle.wire.specs.declared.settings.Representation.{Representation}
+use Rattle.wire.specs.declared.settings.Representation.the-variants.{Known, Unknown}
+
+abbrev pub settings : ByteOrder → Version → Settings
+settings o v = record { order = o; version = v }
+
+-- "even big-endian, odd little"
+unfoldable pub orderOf : ℕ → ByteOrder
+orderOf second = pick (eqb (second % 2) 0) BigEndian LittleEndian
+
+-- "first byte 0; second byte 0 to 3 is XCDR1, 6 to 11 XCDR2"
+unfoldable pub settingsOf : ℕ → ℕ → Representation
+settingsOf first second =
+    pick (both (eqb first 0) (within (0 ‥ 3) second)) (Known (settings (orderOf second) Xcdr1))
+    (pick (both (eqb first 0) (within (6 ‥ 11) second)) (Known (settings (orderOf second) Xcdr2)) Unknown)
+
+-- two strings of two bytes are the same
+unfoldable pub sameBytes : List ℕ → List ℕ → Bool
+sameBytes a b = both (eqb (getD a 0 0) (getD b 0 0)) (eqb (getD a 1 0) (getD b 1 0))

@@ -1,0 +1,4 @@
+pub mod Identifier
+pub mod Place
+pub mod Number
+pub mod Signed

@@ -1,0 +1,43 @@
+-- Where a reading stands, and how it moves.
+use Prim.Native.Nat.{ℕ, _+_, _-_, _%_, min}
+use mathlib.Core.List.{List}
+use lib.ListN.{length}
+use lib.Dec.{leb}
+use Rattle.ground.specs.Choice.{pick}
+use Rattle.wire.specs.declared.settings.Version.{Version}
+use Rattle.wire.specs.declared.settings.Version.the-variants.{Xcdr1, Xcdr2}
+use Rattle.wire.specs.declared.cursor.Cursor.{Cursor}
+use Rattle.wire.specs.declared.cursor.Shortage.{Shortage}
+use Rattle.wire.specs.declared.cursor.Place.{Place}
+use Rattle.wire.specs.declared.cursor.Place.the-variants.{At, Short}
+
+abbrev pub cursorAt : ℕ → ℕ → Cursor
+cursorAt p o = record { pos = p; origin = o }
+
+abbrev pub moved : Cursor → ℕ → Cursor
+moved c n = cursorAt (c .pos + n) (c .origin)
+
+-- "Refusals keep the position reached."
+abbrev pub shortAt : Cursor → Shortage
+shortAt c = record { at = c }
+
+-- what a shortage tells, with the reading standing at c again
+abbrev pub broughtBack : Shortage → Cursor → Shortage
+broughtBack x c = record { at = c }
+
+-- "A number is aligned to its own size (FLOAT128 to 16) ..; XCDR2 caps this at 4."
+unfoldable pub alignmentOf : Version → ℕ → ℕ
+alignmentOf Xcdr1 size = size
+alignmentOf Xcdr2 size = min size 4
+
+-- ".., counted from the origin": the bytes to the next multiple of the alignment
+unfoldable pub paddingOf : Cursor → ℕ → ℕ
+paddingOf c alignment = (alignment - (c .pos - c .origin) % alignment) % alignment
+
+-- past n bytes where the data has them, else short where it stands.
+-- "A position may pass the end; then even a skip of 0 is 1."
+unfoldable pub seekTo : List ℕ → Cursor → ℕ → Place
+seekTo s c n = pick (leb (c .pos + n) (length s)) (At (moved c n)) (Short (shortAt c))
+
+unfoldable pub alignTo : List ℕ → Version → Cursor → ℕ → Place
+alignTo s v c size = seekTo s c (paddingOf c (alignmentOf v size))

@@ -1,0 +1,97 @@
+// Where a reading stands in the data, and how it moves. Nothing is required of a position, an origin or a length: each test stands
+// before the sum that it allows, so nothing wraps, past the end too.
+ghost use mathlib.Core.Path.{_≡_};
+ghost use Prim.Native.Nat.{_<_};
+ghost use Rattle.wire.specs.Place.{cursorAt, broughtBack, alignmentOf, paddingOf, seekTo, alignTo};
+use crate::settings::Version;
+
+pub struct Cursor {
+    pub pos: usize,
+    pub origin: usize,
+}
+
+// What a read that ran short tells. Whoever meets one passes it on whole.
+pub struct Shortage {
+    pub at: Cursor,
+}
+
+impl Shortage {
+    // The same shortage, with the reading standing at `c` again.
+    pub fn back_to(self, c: Cursor) -> Shortage
+        ensures { λ r. ⌜ r ≡ broughtBack self c ⌝ }
+    {
+        let mut x = self;
+        x.at = c;
+        x
+    }
+}
+
+pub enum Place {
+    At(Cursor),
+    Short(Shortage),
+}
+
+impl Cursor {
+    // The most that XCDR2 aligns to.
+    pub const CAP: usize = 4;
+
+    pub fn new(pos: usize, origin: usize) -> Self
+        ensures { λ r. ⌜ r ≡ cursorAt pos origin ⌝ }
+    {
+        Cursor { pos, origin }
+    }
+
+    // How many bytes lead to the next multiple of `alignment`, counted from the origin.
+    fn padding(self, alignment: usize) -> usize
+        requires { ⌜ 0 < alignment ⌝ }
+        ensures { λ r. ⌜ r ≡ paddingOf self alignment ⌝ }
+    {
+        let pos = self.pos;
+        let origin = self.origin;
+        if pos < origin {
+            return 0;
+        }
+        (alignment - (pos - origin) % alignment) % alignment
+    }
+
+    // Past a block of n bytes. This alone asks where the data ends; a block's bytes stay in the data, so the Rust's read_bytes is this too.
+    pub fn seek(self, s: &[u8], n: usize) -> Place
+        ensures { λ r. ⌜ r ≡ seekTo (now (s .entry)) self n ⌝ }
+    {
+        let pos = self.pos;
+        let origin = self.origin;
+        let end = s.len();
+        if end < pos {
+            return Place::Short(Shortage { at: self });
+        }
+        if end - pos < n {
+            return Place::Short(Shortage { at: self });
+        }
+        Place::At(Cursor::new(pos + n, origin))
+    }
+
+    // To where a number of `size` bytes may stand.
+    pub fn align(self, s: &[u8], version: Version, size: usize) -> Place
+        requires { ⌜ 0 < size ⌝ }
+        ensures { λ r. ⌜ r ≡ alignTo (now (s .entry)) version self size ⌝ }
+    {
+        let alignment = alignment_of(version, size);
+        let n = self.padding(alignment);
+        self.seek(s, n)
+    }
+}
+
+fn alignment_of(version: Version, size: usize) -> usize
+    ensures { λ r. ⌜ r ≡ alignmentOf version size ⌝ }
+{
+    match version {
+        Version::Xcdr1 => size,
+        Version::Xcdr2 => {
+            if Cursor::CAP < size {
+                Cursor::CAP
+            } else {
+                size
+            }
+        }
+    }
+}

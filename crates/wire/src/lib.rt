@@ -1,0 +1,5 @@
+// The wire: where a reading stands, how it moves, and the numbers it finds. The Rust's Reader, EndiannessRead and AsBytes.
+pub mod cursor;
+pub mod number;
+pub mod settings;
+pub mod signed;

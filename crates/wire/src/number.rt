@@ -1,0 +1,146 @@
+// Numbers in the data. Each is aligned to its own size, then its bytes are read in the settings' byte order; what ran short keeps the
+// position reached.
+ghost use mathlib.Core.Path.{_≡_};
+ghost use Prim.Native.Nat.{_+_, _≤_, _<_, _^_};
+ghost use lib.ListN.{length};
+ghost use Rattle.wire.specs.Number.{numberAt, numberHere, booleanIn, readFloat128, float128Here, readBoolean, ReadIs, HereIs};
+use crate::cursor::Cursor;
+use crate::cursor::Place;
+use crate::cursor::Shortage;
+use crate::settings::ByteOrder;
+use crate::settings::Settings;
+
+pub enum Number {
+    Got(u64, Cursor),
+    Short(Shortage),
+}
+
+// The low half of the number, then the high half.
+pub enum Float128 {
+    Got(u64, u64, Cursor),
+    Short(Shortage),
+}
+
+pub enum Boolean {
+    Got(bool, Cursor),
+    Bad,
+    Short(Shortage),
+}
+
+// The number that `width` bytes from `pos` spell, the first byte the highest.
+fn from_be_bytes(s: &[u8], pos: usize, width: usize) -> u64
+    requires { ⌜ (pos + width ≤ length (now s)) × (width ≤ 8) ⌝ }
+    ensures { λ r. ⌜ (r ≡ numberAt ByteOrder.BigEndian 0 (now (s .entry)) pos width) × (r < 256 ^ width) ⌝ }
+{
+    let mut v: u64 = 0;
+    let mut p = pos;
+    let mut left = width;
+    while 0 < left {
+        v = v * 256 + ground::wide(s[p]);
+        p += 1;
+        left -= 1;
+    }
+    v
+}
+
+// The number that `width` bytes from `pos` spell, the last byte the highest.
+fn from_le_bytes(s: &[u8], pos: usize, width: usize) -> u64
+    requires { ⌜ (pos + width ≤ length (now s)) × (width ≤ 8) ⌝ }
+    ensures { λ r. ⌜ (r ≡ numberAt ByteOrder.LittleEndian 0 (now (s .entry)) pos width) × (r < 256 ^ width) ⌝ }
+{
+    let mut v: u64 = 0;
+    let mut left = width;
+    while 0 < left {
+        left -= 1;
+        v = v * 256 + ground::wide(s[pos + left]);
+    }
+    v
+}
+
+fn from_bytes(s: &[u8], order: ByteOrder, pos: usize, width: usize) -> u64
+    requires { ⌜ (pos + width ≤ length (now s)) × (width ≤ 8) ⌝ }
+    ensures { λ r. ⌜ (r ≡ numberAt order 0 (now (s .entry)) pos width) × (r < 256 ^ width) ⌝ }
+{
+    match order {
+        ByteOrder::BigEndian => from_be_bytes(s, pos, width),
+        ByteOrder::LittleEndian => from_le_bytes(s, pos, width),
+    }
+}
+
+// The number where the cursor stands.
+fn number_here(s: &[u8], order: ByteOrder, at: Cursor, width: usize) -> Number
+    requires { ⌜ width ≤ 8 ⌝ }
+    ensures { λ r. ⌜ HereIs (now (s .entry)) order at width r ⌝ }
+{
+    let pos = at.pos;
+    let past = at.seek(s, width);
+    match past {
+        Place::Short(x) => Number::Short(x),
+        Place::At(c) => Number::Got(from_bytes(s, order, pos, width), c),
+    }
+}
+
+// Serialization rule 2: a primitive of `width` bytes.
+pub fn read_number(s: &[u8], set: Settings, at: Cursor, width: usize) -> Number
+    requires { ⌜ (0 < width) × (width ≤ 8) ⌝ }
+    ensures { λ r. ⌜ ReadIs (now (s .entry)) set at width r ⌝ }
+{
+    let version = set.version;
+    let order = set.order;
+    let place = at.align(s, version, width);
+    match place {
+        Place::Short(x) => Number::Short(x),
+        Place::At(c) => number_here(s, order, c, width),
+    }
+}
+
+// The 16 bytes where the cursor stands, in one read.
+fn float128_here(s: &[u8], order: ByteOrder, at: Cursor) -> Float128
+    ensures { λ r. ⌜ r ≡ float128Here (now (s .entry)) order at ⌝ }
+{
+    let pos = at.pos;
+    let past = at.seek(s, 16);
+    match past {
+        Place::Short(x) => Float128::Short(x),
+        Place::At(c) => {
+            let first = from_bytes(s, order, pos, 8);
+            let second = from_bytes(s, order, pos + 8, 8);
+            match order {
+                ByteOrder::BigEndian => Float128::Got(second, first, c),
+                ByteOrder::LittleEndian => Float128::Got(first, second, c),
+            }
+        }
+    }
+}
+
+pub fn read_float128(s: &[u8], set: Settings, at: Cursor) -> Float128
+    ensures { λ r. ⌜ r ≡ readFloat128 (now (s .entry)) set at ⌝ }
+{
+    let version = set.version;
+    let order = set.order;
+    let place = at.align(s, version, 16);
+    match place {
+        Place::Short(x) => Float128::Short(x),
+        Place::At(c) => float128_here(s, order, c),
+    }
+}
+
+fn boolean_in(v: u64, c: Cursor) -> Boolean
+    ensures { λ r. ⌜ r ≡ booleanIn v c ⌝ }
+{
+    match v {
+        0 => Boolean::Got(false, c),
+        1 => Boolean::Got(true, c),
+        _ => Boolean::Bad,
+    }
+}
+
+pub fn read_boolean(s: &[u8], set: Settings, at: Cursor) -> Boolean
+    ensures { λ r. ⌜ r ≡ readBoolean (now (s .entry)) set at ⌝ }
+{
+    let byte = read_number(s, set, at, 1);
+    match byte {
+        Number::Short(x) => Boolean::Short(x),
+        Number::Got(v, c) => boolean_in(v, c),
+    }
+}
