@@ -17,7 +17,7 @@ both false b = false
 -- k is one of these numbers
 abbrev pub among : List ℕ → ℕ → Bool
 among [] k = false
-among (x ∷ xs) k = eqb x k || among xs k
+among (x ∷ xs) k = eqb k x || among xs k
 
 -- the numbers from one to another, both counted in
 infix 80 _‥_

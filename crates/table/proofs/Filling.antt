@@ -162,3 +162,20 @@ filled-first {a} {b} {n} {r} {rs} f =
     word k h =
         let j : k < width * suc (length rs) = omega arith in
         sym (getD-take (width * suc (length rs)) (drop (width * n) b) k 0 j ∙ getD-drop (width * n) b k 0) ∙ ap (λ (l : List ℕ). getD l k 0) (f .rows)
+
+-- the rows after the first
+pub filled-rest : {a b : List ℕ} {n : ℕ} {r : Row} {rs : List Row} → Filled a b n (r ∷ rs) → Filled b b (n + 1) rs
+unfolding words
+filled-rest {a} {b} {n} {r} {rs} f =
+    let e : width * (n + 1) ≡ width * n + width = omega arith in
+    let k : width * suc (length rs) ≡ width + width * length rs = omega arith in
+    record {
+      long = refl;
+      kept = refl;
+      rows =
+          ap (λ (j : ℕ). take (width * length rs) (drop j b)) e
+          ∙ ap (take (width * length rs)) (sym (drop-drop width (width * n) b))
+          ∙ drop-take width (width * length rs) (drop (width * n) b)
+          ∙ ap (λ (j : ℕ). drop width (take j (drop (width * n) b))) (sym k)
+          ∙ ap (drop width) (f .rows);
+    }

@@ -1,3 +1,3 @@
 // The lent table: rows, and what an answer leaves in it.
-pub mod rows;
 pub mod out;
+pub mod rows;

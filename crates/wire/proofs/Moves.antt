@@ -8,11 +8,12 @@ use native.Mathlib.Nat.{mod-lt, mod-self, zero-mod, sub-zero, sub-eq-zero-of-le,
 use lib.ListN.{length}
 use lib.Dec.{leb}
 use borrow.Author.Tests.{le-leb, lt-leb, leb-true, leb-false}
-use Rattle.wire.specs.Place.{moved, shortAt, alignmentOf, paddingOf, seekTo, alignTo}
+use Rattle.wire.specs.Place.{moved, shortAt, alignmentOf, paddingOf, seekTo, alignTo, afterMove}
 use Rattle.wire.specs.declared.settings.Version.{Version}
 use Rattle.wire.specs.declared.settings.Version.the-variants.{Xcdr1, Xcdr2}
 use Rattle.wire.specs.declared.cursor.Cursor.{Cursor}
 use Rattle.wire.specs.declared.cursor.Shortage.{Shortage}
+use Rattle.wire.specs.declared.cursor.Place.{Place}
 use Rattle.wire.specs.declared.cursor.Place.the-variants.{At, Short}
 
 pub alignment-own : (v : Version) (n : ℕ) → v ≡ Xcdr1 → n ≡ alignmentOf v n
@@ -79,3 +80,13 @@ unfolding alignTo
 align-inv s v c size d f =
     let k = seek-inv s c (paddingOf c (alignmentOf v size)) d f in
     (omega (arith, k .0, ap (λ (y : Cursor). y .pos) (k .1)), omega (arith, k .0, ap (λ (y : Cursor). y .pos) (k .1)), omega (arith, ap (λ (y : Cursor). y .origin) (k .1)))
+
+-- what follows a move, by how it went
+module _ {A : Type 0} (short : Shortage → A) (next : Cursor → A) {p : Place} where
+  pub after-at : {c : Cursor} → p ≡ At c → afterMove short p next ≡ next c
+  unfolding afterMove
+  after-at e = rw e
+
+  pub after-short : {x : Shortage} → p ≡ Short x → afterMove short p next ≡ short x
+  unfolding afterMove
+  after-short e = rw e

@@ -7,7 +7,7 @@ use native.Mathlib.Omega.{arith}
 use lib.ListN.{length}
 use borrow.Author.Tests.{ne-eqb}
 use Rattle.wire.specs.Place.{moved, seekTo, alignTo}
-use Rattle.wire.specs.Number.{numberAt, onBytes, numberHere, onAligned, readNumber, halvesOf, float128Here, readFloat128, booleanIn, onByte, readBoolean, HereIs, ReadIs}
+use Rattle.wire.specs.Number.{numberAt, onBytes, numberHere, onAligned, readNumber, halvesOf, float128Here, readFloat128, booleanIn, onByte, readBoolean, afterNumber, HereIs, ReadIs}
 use Rattle.wire.specs.declared.settings.ByteOrder.{ByteOrder}
 use Rattle.wire.specs.declared.settings.ByteOrder.the-variants.{BigEndian, LittleEndian}
 use Rattle.wire.specs.declared.settings.Settings.{Settings}
@@ -131,3 +131,13 @@ module _ (s : List ℕ) where
   pub read-inv : (set : Settings) (c : Cursor) (w v : ℕ) (d : Cursor) → readNumber s set c w ≡ number.Got v d → Moved s c w d
   unfolding readNumber
   read-inv set c w v d e = aligned-inv (set .order) set w v c d (alignTo s (set .version) c w) refl e
+
+-- what follows a number, by how its read went
+module _ {A : Type 0} (short : Shortage → A) (next : ℕ → Cursor → A) {n : Number} where
+  pub after-got : {v : ℕ} {c : Cursor} → n ≡ number.Got v c → afterNumber short n next ≡ next v c
+  unfolding afterNumber
+  after-got e = rw e
+
+  pub after-none : {x : Shortage} → n ≡ number.Short x → afterNumber short n next ≡ short x
+  unfolding afterNumber
+  after-none e = rw e

@@ -11,6 +11,7 @@ use Rattle.wire.specs.declared.settings.ByteOrder.{ByteOrder}
 use Rattle.wire.specs.declared.settings.ByteOrder.the-variants.{BigEndian, LittleEndian}
 use Rattle.wire.specs.declared.settings.Settings.{Settings}
 use Rattle.wire.specs.declared.cursor.Cursor.{Cursor}
+use Rattle.wire.specs.declared.cursor.Shortage.{Shortage}
 use Rattle.wire.specs.declared.cursor.Place.{Place}
 use Rattle.wire.specs.declared.cursor.Place.the-variants as place
 use Rattle.wire.specs.declared.number.Number.{Number}
@@ -66,6 +67,11 @@ onByte (number.Got v c) = booleanIn v c
 
 unfoldable pub readBoolean : List ℕ → Settings → Cursor → Boolean
 readBoolean s set c = onByte (readNumber s set c 1)
+
+-- what follows a number that was read, with the number
+unfoldable pub afterNumber : {A : Type 0} → (Shortage → A) → Number → (ℕ → Cursor → A) → A
+afterNumber short (number.Short x) next = short x
+afterNumber short (number.Got v c) next = next v c
 
 -- A number that was read is below 256 ^ w. A list's elements may be any numbers, so this does not follow from the definition.
 abbrev pub Small : ℕ → Number → Type 0

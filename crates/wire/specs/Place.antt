@@ -41,3 +41,8 @@ seekTo s c n = pick (leb (c .pos + n) (length s)) (At (moved c n)) (Short (short
 
 unfoldable pub alignTo : List ℕ → Version → Cursor → ℕ → Place
 alignTo s v c size = seekTo s c (paddingOf c (alignmentOf v size))
+
+-- what follows a move; a shortage is passed on whole, in the way that the first argument says
+unfoldable pub afterMove : {A : Type 0} → (Shortage → A) → Place → (Cursor → A) → A
+afterMove short (Short x) next = short x
+afterMove short (At c) next = next c

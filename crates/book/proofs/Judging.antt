@@ -1,0 +1,215 @@
+-- Laws of the judge's tests and walks. Assumes nothing.
+use Prim.Native.Nat.{ℕ, zero, suc, _+_, _-_, _*_, _<_, _≤_, min}
+use mathlib.Core.Path.{_≡_, refl, sym, ap, _∙_}
+use mathlib.Core.Bool.{Bool, true, false, not, _&&_, _||_}
+use mathlib.Core.List.{List, [], _∷_, _++_}
+use native.Mathlib.Omega.{arith}
+use native.Mathlib.Numerals.{add-one}
+use lib.Dec.{eqb, ltb, leb}
+use lib.ListN.{length, take, drop}
+use borrow.Author.Tests.{not-true, not-false, lt-leb, le-leb, eq-eqb, ne-eqb, leb-true}
+use Rattle.ground.specs.Choice.{pick, both}
+use Rattle.book.specs.declared.member.Run.{Run}
+use Rattle.book.specs.Types.{Member, BookType, noIndex, pair, memberOf, pastMember, membersOf, typeOf, pastType, typeCount, typesOf}
+use Rattle.book.specs.Places.{from, memberAt, typeAt, Skipped, listed, later, earlier, Started, After, typesBy, indexCount, indexed}
+use Rattle.book.specs.Rules.{isEnum, isList, filled, recordLengthOk, elementOk, ownOk, every, linkOk, memberOk, membersOk, typeOk, recordOk, recordsOk, sizeOk, versionOk, typeCountOk, headOk, bookOk}
+use Rattle.book.proofs.Kept.{both-second, kept}
+use Rattle.book.proofs.Indexing.{index-types, take-indexed, length-places}
+use Rattle.book.proofs.Places.{run, run-more, run-none, length-members}
+
+-- members that fill their bytes
+module _ (b : List ℕ) (ms : Run) (room : ℕ) (whole : Bool) (inv : filled (listed b ms) room ≡ whole) where
+  pub fill-bad : (n : ℕ) → 0 < ms .left → n ≡ length (memberAt b (ms .at) .labels) → room < 9 + 4 * n → false ≡ whole
+  unfolding filled
+  fill-bad n h e l = rw (run-more b ms h, ← e, lt-leb _ _ l) at inv
+
+  pub fill-turn : (n : ℕ) (r : Run) → 0 < ms .left → n ≡ length (memberAt b (ms .at) .labels) → 9 + 4 * n ≤ room → After b ms r → filled (listed b r) (room - (9 + 4 * n)) ≡ whole
+  unfolding filled
+  fill-turn n r h e l a = rw (a .is) (rw (run-more b ms h, ← e, le-leb _ _ l) at inv)
+
+  pub fill-end : ms .left ≤ 0 → eqb room 0 ≡ whole
+  unfolding filled
+  fill-end h = rw (run-none b ms h) at inv
+
+pub ruleset fill-laws = (fill-bad, fill-turn, fill-end)
+
+-- a record's length
+module _ (b : List ℕ) (at n l : ℕ) (e : n ≡ pair (from b at) 0) (d : l ≡ length (from b at)) where
+  pub length-past : l < n → false ≡ recordLengthOk (from b at)
+  unfolding recordLengthOk
+  length-past h = rw (← e, ← d, lt-leb _ _ h)
+
+  pub length-small : n ≤ l → n < 14 → false ≡ recordLengthOk (from b at)
+  unfolding recordLengthOk
+  length-small h k = rw (← e, ← d, le-leb _ _ h, lt-leb _ _ k)
+
+  pub length-fill : (ms : Run) (t : Bool) → n ≤ l → 14 ≤ n → Started b at ms → t ≡ filled (listed b ms) (n - 14) → t ≡ recordLengthOk (from b at)
+  unfolding recordLengthOk
+  length-fill ms t h k s f = rw (← e, ← d, le-leb _ _ h, le-leb _ _ k) (rw (s .is) at f)
+
+pub ruleset length-laws = (length-past, length-small, length-fill)
+
+-- a rule that picks by a test
+pub element-some : (t : BookType) (k kind e : ℕ) → kind ≡ t .kind → e ≡ t .element → (eqb kind 25 || eqb kind 26) ≡ true → ltb e k ≡ elementOk k t
+unfolding elementOk
+element-some t k kind e f g h = rw (← f, ← g, h)
+
+pub element-none : (t : BookType) (k kind e : ℕ) → kind ≡ t .kind → e ≡ t .element → (eqb kind 25 || eqb kind 26) ≡ false → eqb e noIndex ≡ elementOk k t
+unfolding elementOk
+element-none t k kind e f g h = rw (← f, ← g, h)
+
+pub link-none : (t : BookType) (m : Member) (k kind l : ℕ) → kind ≡ t .kind → l ≡ m .type → kind ≡ 21 → eqb l noIndex ≡ linkOk k t m
+unfolding linkOk
+link-none t m k kind l f g h = rw (← f, ← g, eq-eqb kind 21 h)
+
+pub link-some : (t : BookType) (m : Member) (k kind l : ℕ) → kind ≡ t .kind → l ≡ m .type → (kind ≡ 21 → ⊥) → ltb l k ≡ linkOk k t m
+unfolding linkOk
+link-some t m k kind l f g h = rw (← f, ← g, ne-eqb kind 21 h)
+
+-- a rule that every member of a run keeps
+module _ (b : List ℕ) (f : Member → Bool) (ms : Run) (whole : Bool) (inv : every f (listed b ms) ≡ whole) where
+  pub every-bad : (t : Bool) → 0 < ms .left → t ≡ f (memberAt b (ms .at)) → not t ≡ true → false ≡ whole
+  unfolding every
+  every-bad t h e z =
+      let g : f (memberAt b (ms .at)) ≡ false = sym e ∙ not-true t z in
+      rw (run-more b ms h, g) at inv
+
+  pub every-turn : (t : Bool) (r : Run) → 0 < ms .left → t ≡ f (memberAt b (ms .at)) → not t ≡ false → After b ms r → every f (listed b r) ≡ whole
+  unfolding every
+  every-turn t r h e z a =
+      let g : f (memberAt b (ms .at)) ≡ true = sym e ∙ not-false t z in
+      rw (a .is) (rw (run-more b ms h, g) at inv)
+
+  pub every-end : ms .left ≤ 0 → true ≡ whole
+  unfolding every
+  every-end h = rw (run-none b ms h) at inv
+
+pub ruleset every-laws = (every-bad, every-turn, every-end)
+
+-- the members before one
+pub before-is : (b : List ℕ) (at p n : ℕ) → Skipped b at 14 p → listed b (run p n) ≡ earlier b at n
+unfolding listed earlier
+before-is b at p n s = rw (s .is)
+
+pub length-earlier : (b : List ℕ) (at n : ℕ) → length (earlier b at n) ≡ n
+unfolding earlier
+length-earlier b at n = length-members n (drop 14 (from b at))
+
+-- the bytes after n members
+unfoldable pub pastMembers : ℕ → List ℕ → List ℕ
+pastMembers zero s = s
+pastMembers (suc n) s = pastMember (pastMembers n s)
+
+past-first : (n : ℕ) (s : List ℕ) → pastMembers n (pastMember s) ≡ pastMember (pastMembers n s)
+unfolding pastMembers
+past-first zero s = refl
+past-first (suc n) s = ap pastMember (past-first n s)
+
+one-more : (n : ℕ) (s : List ℕ) → membersOf (suc n) s ≡ membersOf n s ++ memberOf (pastMembers n s) ∷ []
+unfolding membersOf pastMembers
+one-more zero s = refl
+one-more (suc n) s =
+    ap (λ (ms : List Member). memberOf s ∷ ms) (one-more n (pastMember s) ∙ (rw (past-first n s)))
+
+-- the walk over the members of a type: `done` of them keep the rules, and the run has the others
+pub record Walking (b : List ℕ) (types : List BookType) (at k done : ℕ) (ms : Run) : Type 0 where
+  pub stands : from b (ms .at) ≡ pastMembers done (drop 14 (from b at))
+  pub still : membersOk types k (typeAt b at) (earlier b at done) (listed b ms) ≡ membersOk types k (typeAt b at) [] (typeAt b at .members)
+  pub few : done + ms .left < 65536
+
+pub walk-start : (b : List ℕ) (types : List BookType) (at k : ℕ) (ms : Run) → Started b at ms → Walking b types at k 0 ms
+unfolding pastMembers earlier membersOf
+walk-start b types at k ms s = record { stands = s .bytes; still = rw (s .is); few = omega (arith, s .small) }
+
+module _ (b : List ℕ) (types : List BookType) (at k done : ℕ) (ms : Run) (x : Walking b types at k done ms) where
+  here : (t : Bool) (z : Bool) → 0 < ms .left → t ≡ memberOk types k (typeAt b at) (earlier b at done) (memberAt b (ms .at)) → t ≡ z → both z (membersOk types k (typeAt b at) (earlier b at done ++ memberAt b (ms .at) ∷ []) (later b ms)) ≡ membersOk types k (typeAt b at) [] (typeAt b at .members)
+  unfolding membersOk
+  here t z h e f =
+      let g : memberOk types k (typeAt b at) (earlier b at done) (memberAt b (ms .at)) ≡ z = sym e ∙ f in
+      rw (run-more b ms h, g) at (x .still)
+
+  next : earlier b at (suc done) ≡ earlier b at done ++ memberAt b (ms .at) ∷ []
+  unfolding earlier
+  next = one-more done (drop 14 (from b at)) ∙ (rw (x .stands))
+
+  pub walk-bad : (t : Bool) → 0 < ms .left → t ≡ memberOk types k (typeAt b at) (earlier b at done) (memberAt b (ms .at)) → not t ≡ true → false ≡ membersOk types k (typeAt b at) [] (typeAt b at .members)
+  walk-bad t h e z = here t false h e (not-true t z)
+
+  pub walk-turn : (t : Bool) (r : Run) → 0 < ms .left → t ≡ memberOk types k (typeAt b at) (earlier b at done) (memberAt b (ms .at)) → not t ≡ false → After b ms r → Walking b types at k (done + 1) r
+  unfolding pastMembers
+  walk-turn t r h e z a =
+      record {
+        stands = rw (add-one done, ← x .stands) (a .bytes);
+        still = rw (add-one done, next, a .is) (here t true h e (not-false t z));
+        few = omega (arith, x .few, a .left);
+      }
+
+  pub walk-end : ms .left ≤ 0 → true ≡ membersOk types k (typeAt b at) [] (typeAt b at .members)
+  unfolding membersOk
+  walk-end h = rw (run-none b ms h) at (x .still)
+
+pub ruleset walk-laws = (walk-start, walk-bad, walk-turn, walk-end)
+
+-- a record
+module _ (types : List BookType) (b : List ℕ) (at k : ℕ) (l : Bool) (e : l ≡ recordLengthOk (from b at)) where
+  pub record-length : not l ≡ true → false ≡ recordOk types k (from b at)
+  unfolding recordOk
+  record-length z = rw (← e, not-true l z)
+
+  pub record-own : (o : Bool) → not l ≡ false → o ≡ ownOk k (typeAt b at) → not o ≡ true → false ≡ recordOk types k (from b at)
+  unfolding recordOk typeOk
+  record-own o z f y = rw (← e, not-false l z, ← f, not-true o y)
+
+  pub record-members : (o m : Bool) → not l ≡ false → o ≡ ownOk k (typeAt b at) → not o ≡ false → m ≡ membersOk types k (typeAt b at) [] (typeAt b at .members) → m ≡ recordOk types k (from b at)
+  unfolding recordOk typeOk
+  record-members o m z f y g = rw (← e, not-false l z, ← f, not-false o y) g
+
+pub ruleset record-laws = (record-length, record-own, record-members)
+
+-- the records in order: k of n passed
+pub records-start : (b : List ℕ) (types : List BookType) (n : ℕ) → recordsOk types 0 (n - 0) (from b 7) ≡ recordsOk types 0 n (from b 7)
+records-start b types n =
+    let e : n - 0 ≡ n = omega arith in
+    rw e
+
+module _ (b : List ℕ) (types : List BookType) (n k p : ℕ) (whole : Bool) (inv : recordsOk types k (n - k) (from b p) ≡ whole) where
+  this : (t z : Bool) → k < n → t ≡ recordOk types k (from b p) → t ≡ z → both z (recordsOk types (suc k) (n - suc k) (pastType (from b p))) ≡ whole
+  unfolding recordsOk
+  this t z h e f =
+      let g : recordOk types k (from b p) ≡ z = sym e ∙ f in
+      let j : n - k ≡ suc (n - suc k) = omega arith in
+      rw (j, g) at inv
+
+  pub records-bad : (t : Bool) → k < n → t ≡ recordOk types k (from b p) → not t ≡ true → false ≡ whole
+  records-bad t h e z = this t false h e (not-true t z)
+
+  pub records-turn : (t : Bool) (l q : ℕ) → k < n → t ≡ recordOk types k (from b p) → not t ≡ false → l ≡ pair (from b p) 0 → Skipped b p l q → recordsOk types (k + 1) (n - (k + 1)) (from b q) ≡ whole
+  unfolding pastType
+  records-turn t l q h e z f s = rw (add-one k, s .is, f) (this t true h e (not-false t z))
+
+  pub records-end : (l : ℕ) → n ≤ k → l ≡ length (from b p) → eqb l 0 ≡ whole
+  unfolding recordsOk
+  records-end l h e =
+      let j : n - k ≡ 0 = omega arith in
+      rw e (rw j at inv)
+
+pub ruleset records-laws = (records-start, records-bad, records-turn, records-end)
+
+-- the book
+pub few-types : (b : List ℕ) → headOk b ≡ true → typeCount b ≤ 64
+unfolding headOk typeCountOk
+few-types b e =
+    leb-true (typeCount b) 64
+    (both-second (leb 1 (typeCount b)) (leb (typeCount b) 64) (kept 2 (sizeOk b) (versionOk b ∷ typeCountOk b ∷ []) e))
+
+module _ (b : List ℕ) (h : Bool) (e : h ≡ headOk b) where
+  pub judge-head : not h ≡ true → false ≡ bookOk b
+  unfolding bookOk
+  judge-head z = rw (← e, not-true h z)
+
+  pub judge-records : (t u : List ℕ) (n : ℕ) (r : Bool) → not h ≡ false → length t ≡ 64 → n ≡ indexCount b (length t) → u ≡ indexed b t → r ≡ recordsOk (typesBy b (take (n - 0) u)) 0 (length (take (n - 0) u)) (from b 7) → r ≡ bookOk b
+  unfolding bookOk typesOf from
+  judge-records t u n r z l f g k =
+      let c : indexCount b (length t) ≡ typeCount b = omega (arith, few-types b (sym e ∙ not-false h z)) in
+      let m : n - 0 ≡ indexCount b (length t) = omega arith in
+      rw (← e, not-false h z) (rw (m, g, index-types b t, take-indexed b t, length-places, c) at k)

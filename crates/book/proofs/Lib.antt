@@ -1,0 +1,7 @@
+pub mod Places
+pub mod Search
+pub mod Indexing
+pub mod Kept
+pub mod Judging
+pub mod Good
+mod Examples

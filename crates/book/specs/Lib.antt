@@ -1,0 +1,4 @@
+pub mod Types
+pub mod Places
+pub mod Labels
+pub mod Rules

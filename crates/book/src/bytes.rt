@@ -1,0 +1,53 @@
+// The bytes of a book. A place is any number; past the end every byte is 0.
+ghost use mathlib.Core.Path.{_≡_};
+ghost use Prim.Native.Nat.{_<_, _^_};
+ghost use lib.ListN.{length};
+ghost use Rattle.book.specs.Types.{byte, pair, quad};
+ghost use Rattle.book.specs.Places.{from, Skipped};
+
+// How many bytes are left at p.
+pub fn left_at(b: &[u8], p: usize) -> usize
+    ensures { λ r. ⌜ r ≡ length (from (now (b .entry)) p) ⌝ }
+{
+    if p < b.len() {
+        return b.len() - p;
+    }
+    0
+}
+
+// The byte k bytes after p.
+pub fn byte_at(b: &[u8], p: usize, k: usize) -> usize
+    ensures { λ r. ⌜ (r ≡ byte (from (now (b .entry)) p) k) × (r < 256) ⌝ }
+{
+    if left_at(b, p) <= k {
+        return 0;
+    }
+    let i = p + k;
+    ground::wide(b[i]) as usize
+}
+
+// The number of two bytes.
+pub fn pair_at(b: &[u8], p: usize, k: usize) -> usize
+    requires { ⌜ k < 2 ^ 33 ⌝ }
+    ensures { λ r. ⌜ (r ≡ pair (from (now (b .entry)) p) k) × (r < 65536) ⌝ }
+{
+    byte_at(b, p, k) * 256 + byte_at(b, p, k + 1)
+}
+
+// The number of four bytes.
+pub fn quad_at(b: &[u8], p: usize, k: usize) -> u32
+    requires { ⌜ k < 2 ^ 32 ⌝ }
+    ensures { λ r. ⌜ r ≡ quad (from (now (b .entry)) p) k ⌝ }
+{
+    (pair_at(b, p, k) * 65536 + pair_at(b, p, k + 2)) as u32
+}
+
+// The place n bytes after p, no further than the end.
+pub fn skip(b: &[u8], p: usize, n: usize) -> usize
+    ensures { λ r. ⌜ Skipped (now (b .entry)) p n r ⌝ }
+{
+    if left_at(b, p) <= n {
+        return b.len();
+    }
+    p + n
+}

@@ -1,0 +1,249 @@
+// Whether a book is right: document 01's rules of a book, in reading order. Counts are tested before the loops that they bound.
+ghost use mathlib.Core.Path.{_≡_};
+ghost use mathlib.Core.Bool.{_&&_};
+ghost use mathlib.Core.List.{[]};
+ghost use lib.ListN.{length};
+ghost use Rattle.book.specs.Types.{memberOf, typeOf, noIndex};
+ghost use Rattle.book.specs.Places.{from, memberAt, typeAt, listed, earlier, typesBy};
+ghost use Rattle.book.specs.Rules.{headOk, filled, recordLengthOk, codesOk, arrayBoundOk, boundOk, elementOk, memberCountOk, memberKindOk, someMemberOk, ownOk};
+ghost use Rattle.book.specs.Rules.{every, otherId, idOk, firstIdOk, linkOk, firstKindOk, flagsOk, firstDefaultOk, labelCountOk, firstLabelOk, memberOk, membersOk, recordOk, recordsOk, bookOk};
+use crate::bytes::byte_at;
+use crate::bytes::left_at;
+use crate::bytes::pair_at;
+use crate::bytes::quad_at;
+use crate::bytes::skip;
+use crate::index::index;
+use crate::index::place;
+use crate::member;
+use crate::member::Run;
+use crate::types;
+
+const ENUM: usize = 21;
+
+const UNION: usize = 23;
+
+const SEQUENCE: usize = 25;
+
+const ARRAY: usize = 26;
+
+// The index of no type.
+const NONE: usize = 65535;
+
+fn head_ok(b: &[u8]) -> bool
+    ensures { λ r. ⌜ r ≡ headOk (now (b .entry)) ⌝ }
+{
+    let size = quad_at(b, 0, 0) as usize;
+    let count = types::type_count(b);
+    ((size == b.len()) & (b.len() <= 65536))
+        & (byte_at(b, 0, 4) == 1)
+        & ground::in_range(count as u64, 1, 64)
+}
+
+// Whether the members take `room` bytes, and exactly these.
+fn members_fill(b: &[u8], ms: Run, room: usize) -> bool
+    ensures { λ r. ⌜ r ≡ filled (listed (now (b .entry)) ms) room ⌝ }
+{
+    let mut rest = ms;
+    let mut left = room;
+    while 0 < rest.left {
+        let p = rest.at;
+        let size = 9 + 4 * member::label_count(b, p);
+        if left < size {
+            return false;
+        }
+        left -= size;
+        rest = member::after(b, rest);
+    }
+    left == 0
+}
+
+fn record_length_ok(b: &[u8], at: usize) -> bool
+    ensures { λ r. ⌜ r ≡ recordLengthOk (from (now (b .entry)) at) ⌝ }
+{
+    let size = pair_at(b, at, 0);
+    if left_at(b, at) < size {
+        return false;
+    }
+    if size < 14 {
+        return false;
+    }
+    members_fill(b, member::members(b, at), size - 14)
+}
+
+fn codes_ok(b: &[u8], at: usize) -> bool
+    ensures { λ r. ⌜ r ≡ codesOk (typeAt (now (b .entry)) at) ⌝ }
+{
+    let kind = types::kind(b, at);
+    let base = types::base(b, at);
+    (kind <= 27)
+        & (types::extensibility(b, at) <= 2)
+        & ((base <= 27) & ((base == 0) | (kind == ENUM)))
+        & (types::bound_flag(b, at) <= 1)
+}
+
+fn bound_ok(b: &[u8], at: usize) -> bool
+    ensures { λ r. ⌜ r ≡ (arrayBoundOk (typeAt (now (b .entry)) at) && boundOk (typeAt (now (b .entry)) at)) ⌝ }
+{
+    let bounded = types::is_bounded(b, at);
+    (!(types::kind(b, at) == ARRAY) | bounded) & (bounded | (types::bound(b, at) == 0))
+}
+
+fn element_ok(b: &[u8], at: usize, k: usize) -> bool
+    ensures { λ r. ⌜ r ≡ elementOk k (typeAt (now (b .entry)) at) ⌝ }
+{
+    let kind = types::kind(b, at);
+    let element = types::element(b, at);
+    if (kind == SEQUENCE) | (kind == ARRAY) {
+        return element < k;
+    }
+    element == NONE
+}
+
+fn count_ok(b: &[u8], at: usize) -> bool
+    ensures { λ r. ⌜ r ≡ (memberCountOk (typeAt (now (b .entry)) at) && memberKindOk (typeAt (now (b .entry)) at) && someMemberOk (typeAt (now (b .entry)) at)) ⌝ }
+{
+    let kind = types::kind(b, at);
+    let n = member::member_count(b, at);
+    (n <= 64)
+        & ((n == 0) | ground::in_range(kind as u64, 21, 23))
+        & (!((kind == ENUM) | (kind == UNION)) | (1 <= n))
+}
+
+// The own bytes of record k.
+fn own_ok(b: &[u8], at: usize, k: usize) -> bool
+    ensures { λ r. ⌜ r ≡ ownOk k (typeAt (now (b .entry)) at) ⌝ }
+{
+    codes_ok(b, at) & bound_ok(b, at) & element_ok(b, at, k) & count_ok(b, at)
+}
+
+fn other_id(b: &[u8], p: usize, id: u32) -> bool
+    ensures { λ r. ⌜ r ≡ otherId id (memberAt (now (b .entry)) p) ⌝ }
+{
+    !(member::id(b, p) == id)
+}
+
+// Whether none of the members has this id.
+fn id_is_new(b: &[u8], ms: Run, id: u32) -> bool
+    ensures { λ r. ⌜ r ≡ every (otherId id) (listed (now (b .entry)) ms) ⌝ }
+{
+    let mut rest = ms;
+    while 0 < rest.left {
+        let p = rest.at;
+        if !other_id(b, p, id) {
+            return false;
+        }
+        rest = member::after(b, rest);
+    }
+    true
+}
+
+// A member's id: another than those of the `done` members before it, and 0 for the first of a union.
+fn id_ok(b: &[u8], at: usize, done: usize, p: usize, first: bool) -> bool
+    ensures { λ r. ⌜ r ≡ (idOk (earlier (now (b .entry)) at done) (memberAt (now (b .entry)) p) && firstIdOk first (memberAt (now (b .entry)) p)) ⌝ }
+{
+    let id = member::id(b, p);
+    let start = skip(b, at, 14);
+    let before = Run {
+        at: start,
+        left: done,
+    };
+    id_is_new(b, before, id) & (!first | (id == 0))
+}
+
+fn link_ok(b: &[u8], at: usize, k: usize, p: usize) -> bool
+    ensures { λ r. ⌜ r ≡ linkOk k (typeAt (now (b .entry)) at) (memberAt (now (b .entry)) p) ⌝ }
+{
+    let link = member::type_index(b, p);
+    if types::kind(b, at) == ENUM {
+        return link == NONE;
+    }
+    link < k
+}
+
+fn first_kind_ok(b: &[u8], index: &[u32], p: usize, first: bool) -> bool
+    ensures { λ r. ⌜ r ≡ firstKindOk (typesBy (now (b .entry)) (now (index .entry))) first (memberAt (now (b .entry)) p) ⌝ }
+{
+    let kind = types::kind(b, place(b, index, member::type_index(b, p)));
+    !first | (ground::in_range(kind as u64, 1, 15) | (kind == 19) | (kind == 21))
+}
+
+fn flags_ok(b: &[u8], p: usize, first: bool) -> bool
+    ensures { λ r. ⌜ r ≡ (flagsOk (memberAt (now (b .entry)) p) && firstDefaultOk first (memberAt (now (b .entry)) p)) ⌝ }
+{
+    (member::flags(b, p) <= 3) & (!first | !member::is_default(b, p))
+}
+
+fn labels_ok(b: &[u8], p: usize, first: bool) -> bool
+    ensures { λ r. ⌜ r ≡ (labelCountOk (memberAt (now (b .entry)) p) && firstLabelOk first (memberAt (now (b .entry)) p)) ⌝ }
+{
+    let n = member::label_count(b, p);
+    (n <= 16) & (!first | (n == 0))
+}
+
+// The member at p, of the type at `at`, record k, with `done` members before it.
+fn member_ok(b: &[u8], index: &[u32], at: usize, k: usize, done: usize, p: usize) -> bool
+    ensures { λ r. ⌜ r ≡ memberOk (typesBy (now (b .entry)) (now (index .entry))) k (typeAt (now (b .entry)) at) (earlier (now (b .entry)) at done) (memberAt (now (b .entry)) p) ⌝ }
+{
+    let first = (types::kind(b, at) == UNION) & (done == 0);
+    id_ok(b, at, done, p, first)
+        & (link_ok(b, at, k, p) & first_kind_ok(b, index, p, first))
+        & flags_ok(b, p, first)
+        & (member::construct(b, p) <= 2)
+        & labels_ok(b, p, first)
+}
+
+fn members_ok(b: &[u8], index: &[u32], at: usize, k: usize) -> bool
+    ensures { λ r. ⌜ r ≡ membersOk (typesBy (now (b .entry)) (now (index .entry))) k (typeAt (now (b .entry)) at) [] (typeAt (now (b .entry)) at .members) ⌝ }
+{
+    let mut rest = member::members(b, at);
+    let mut done = 0;
+    while 0 < rest.left {
+        let p = rest.at;
+        if !member_ok(b, index, at, k, done, p) {
+            return false;
+        }
+        rest = member::after(b, rest);
+        done += 1;
+    }
+    true
+}
+
+// Record k, at a place.
+fn record_ok(b: &[u8], index: &[u32], at: usize, k: usize) -> bool
+    ensures { λ r. ⌜ r ≡ recordOk (typesBy (now (b .entry)) (now (index .entry))) k (from (now (b .entry)) at) ⌝ }
+{
+    if !record_length_ok(b, at) {
+        return false;
+    }
+    if !own_ok(b, at, k) {
+        return false;
+    }
+    members_ok(b, index, at, k)
+}
+
+// The records of the index, one after the other from byte 7 on, and nothing after them.
+fn records_ok(b: &[u8], index: &[u32]) -> bool
+    ensures { λ r. ⌜ r ≡ recordsOk (typesBy (now (b .entry)) (now (index .entry))) 0 (length (now (index .entry))) (from (now (b .entry)) 7) ⌝ }
+{
+    let mut k = 0;
+    let mut p = 7;
+    while k < index.len() {
+        if !record_ok(b, index, p, k) {
+            return false;
+        }
+        p = skip(b, p, pair_at(b, p, 0));
+        k += 1;
+    }
+    left_at(b, p) == 0
+}
+
+pub fn judge(b: &[u8]) -> bool
+    ensures { λ r. ⌜ r ≡ bookOk (now (b .entry)) ⌝ }
+{
+    if !head_ok(b) {
+        return false;
+    }
+    let mut places = [0u32; 64];
+    let n = index(b, &mut places);
+    records_ok(b, &places[0..n])
+}

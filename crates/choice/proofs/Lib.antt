@@ -1,0 +1,2 @@
+pub mod Discriminators
+pub mod Selection

@@ -1,0 +1,2 @@
+pub mod Discriminator
+pub mod Select

@@ -1,0 +1,89 @@
+-- The table's rule, by one test that antt computes at each code; and what the reader asks of its columns. Assumes nothing.
+use Prim.Native.Nat.{ℕ, _≤_, _<_, zero-le}
+use mathlib.Core.Path.{_≡_, refl}
+use mathlib.Core.Bool.{Bool, true, false, _||_}
+use mathlib.Core.List.{List, [], _∷_}
+use lib.Dec.{T, eqb, leb, lit<, eqb→eq, leb→le}
+use lib.ListN.{getD}
+use borrow.Author.Tests.{ne-eqb, leb-true, leb-false}
+use native.Mathlib.Omega.{arith}
+use Rattle.ground.specs.Choice.{pick, both, among}
+use Rattle.ground.proofs.Tests.{both-left, both-right, above}
+use Rattle.ground.proofs.Between.{passes, between}
+use Rattle.kinds.specs.Kinds.{alignOf, elementSizeOf, storedOf, entryOf, isPrimitive}
+use Rattle.kinds.specs.declared.Entry.{Entry}
+
+abbrev e : ℕ → ℕ → ℕ → Entry
+e a n s = record { align = a; element = n; stored = s }
+
+abbrev sameAlign : Entry → Entry → Bool
+sameAlign x y = eqb (x .align) (y .align)
+
+abbrev sameElement : Entry → Entry → Bool
+sameElement x y = eqb (x .element) (y .element)
+
+abbrev sameStored : Entry → Entry → Bool
+sameStored x y = eqb (x .stored) (y .stored)
+
+abbrev same : Entry → Entry → Bool
+same x y = both (sameAlign x y) (both (sameElement x y) (sameStored x y))
+
+same-is : (x y : Entry) → T (same x y) → x ≡ y
+same-is x y t =
+    let u = both-right (sameAlign x y) (both (sameElement x y) (sameStored x y)) t in
+    let a : x .align ≡ y .align = eqb→eq _ _ (both-left (sameAlign x y) (both (sameElement x y) (sameStored x y)) t) in
+    let n : x .element ≡ y .element = eqb→eq _ _ (both-left (sameElement x y) (sameStored x y) u) in
+    let s : x .stored ≡ y .stored = eqb→eq _ _ (both-right (sameElement x y) (sameStored x y) u) in
+    let whole : e (x .align) (x .element) (x .stored) ≡ e (y .align) (y .element) (y .stored) = rw (a, n, s) in
+    whole
+
+-- any table of 28 entries that passes the test
+pub listed : (t : List Entry) (k : ℕ) → k < 28 → T (passes (λ i. same (getD t i (e 0 0 0)) (entryOf i)) 0 28) → getD t k (e 0 0 0) ≡ entryOf k
+listed t k h p = same-is _ _ (between (λ i. same (getD t i (e 0 0 0)) (entryOf i)) 28 0 p k zero-le h)
+
+-- a byte that is no kind has NONE's entry
+pub unlisted : (k : ℕ) → 28 ≤ k → k < 256 → e 0 1 0 ≡ entryOf k
+unfolding alignOf elementSizeOf storedOf
+unlisted k h l = same-is _ _ (between (λ i. same (e 0 1 0) (entryOf i)) 228 28 tt k h l)
+
+-- What the reader asks of the columns.
+pub primitive-range : (k : ℕ) → isPrimitive k ≡ true → (1 ≤ k) × (k ≤ 15)
+unfolding isPrimitive
+primitive-range k p =
+    let t : T (isPrimitive k) = rw p tt in
+    (leb→le 1 k (both-left (leb 1 k) (leb k 15) t), leb→le k 15 (both-right (leb 1 k) (leb k 15) t))
+
+-- a primitive but FLOAT128 is a number of 1 to 8 bytes
+abbrev word : ℕ → Bool
+word k = both (leb 1 (alignOf k)) (leb (alignOf k) 8)
+
+words : (k : ℕ) → 1 ≤ k → k < 16 → T (eqb k 11 || word k)
+unfolding alignOf
+words = between (λ k. eqb k 11 || word k) 15 1 tt
+
+pub primitive-align : (k : ℕ) → isPrimitive k ≡ true → (k ≡ 11 → ⊥) → (0 < alignOf k) × (alignOf k ≤ 8)
+primitive-align k p h =
+    let r = primitive-range k p in
+    let t : T (word k) = rw (ne-eqb k 11 h) at (words k (r .0) (omega arith)) in
+    (leb→le 1 (alignOf k) (both-left (leb 1 (alignOf k)) (leb (alignOf k) 8) t), leb→le (alignOf k) 8 (both-right (leb 1 (alignOf k)) (leb (alignOf k) 8) t))
+
+-- a stored kind is one of the 28
+pub stored-listed : (k : ℕ) → storedOf k ≤ 27
+unfolding storedOf
+stored-listed k = go (leb k 27) refl
+  where
+    go : (t : Bool) → leb k 27 ≡ t → storedOf k ≤ 27
+    go true h = leb→le (storedOf k) 27 (between (λ i. leb (storedOf i) 27) 28 0 tt k zero-le (omega (arith, leb-true k 27 h)))
+    go false h =
+        let l : 27 < k = leb-false k 27 h in
+        rw (ne-eqb k 2 (omega arith), ne-eqb k 26 (omega arith), above 0 27 k l) zero-le
+
+-- no length is divided by 0
+pub element-some : (k : ℕ) → 0 < elementSizeOf k
+unfolding elementSizeOf
+element-some k = some (among (4 ∷ 7 ∷ 9 ∷ []) k) (among (5 ∷ 8 ∷ 10 ∷ []) k)
+  where
+    some : (four eight : Bool) → 0 < pick four 4 (pick eight 8 1)
+    some true eight = lit< tt
+    some false true = lit< tt
+    some false false = lit< tt

@@ -1,0 +1,5 @@
+pub mod Turns
+pub mod Xcdr1Turns
+pub mod Xcdr2Turns
+pub mod Members
+mod Examples

@@ -1,0 +1,146 @@
+-- The XCDR2 search: a law for each way through its functions, that a header moves on, and that no header ends the search. Assumes
+-- nothing.
+use Prim.Native.Nat.{ℕ, _-_, _*_, _<_, _≤_, _%_, _^_}
+use mathlib.Core.Path.{_≡_, sym, ap, _∙_}
+use mathlib.Core.Bool.{Bool, true, false}
+use mathlib.Core.List.{List}
+use native.Mathlib.Omega.{arith}
+use native.Mathlib.Nat.{mul-le-mul, le-of-lt}
+use lib.ListN.{length}
+use lib.Dec.{eqb, ltb}
+use borrow.Author.Tests.{eq-eqb, ne-eqb}
+use Rattle.ground.specs.Choice.{pick}
+use Rattle.wire.specs.Place.{cursorAt}
+use Rattle.wire.specs.Number.{readNumber, ReadIs, afterNumber}
+use Rattle.wire.specs.declared.settings.Settings.{Settings}
+use Rattle.wire.specs.declared.cursor.Cursor.{Cursor}
+use Rattle.wire.specs.declared.cursor.Shortage.{Shortage}
+use Rattle.wire.specs.declared.number.Number.{Number}
+use Rattle.wire.specs.declared.number.Number.the-variants as number
+use Rattle.wire.proofs.Numbers.{Moved, read-inv}
+use Rattle.lookup.specs.Search.{ranShort, pastValue}
+use Rattle.lookup.specs.Xcdr2.{idOf, lcOf, nextintTimes, lengthByLc, lengthOf, steppedBack, judged, turnAt, seekToPid}
+use Rattle.lookup.specs.declared.search.Seek.{Seek}
+use Rattle.lookup.specs.declared.search.Seek.the-variants.{Found, PidNotFound, Short}
+use Rattle.lookup.specs.declared.search.Turn.{Turn}
+use Rattle.lookup.specs.declared.search.Turn.the-variants.{Done, On}
+use Rattle.lookup.proofs.Turns.{done-on, short-done, found-done, number-inv, not-done, pick-never, then-moved, past-moves, past-there, never-missing}
+
+-- NEXTINT
+module _ (s : List ℕ) (set : Settings) (unit : ℕ) (c : Cursor) (r : Number) (is : ReadIs s set c 4 r) where
+  pub nextint-short : (x : Shortage) → r ≡ number.Short x → number.Short x ≡ nextintTimes s set unit c
+  unfolding nextintTimes afterNumber
+  nextint-short x e = rw (sym (is .is) ∙ e)
+
+  pub nextint-got : (n : ℕ) (d : Cursor) → r ≡ number.Got n d → number.Got (n * unit) d ≡ nextintTimes s set unit c
+  unfolding nextintTimes afterNumber
+  nextint-got n d e = rw (sym (is .is) ∙ e)
+
+  -- eight times a u32 is far from what a word holds
+  pub nextint-fits : (n : ℕ) (d : Cursor) → unit ≤ 8 → r ≡ number.Got n d → n * unit < 2 ^ 64
+  nextint-fits n d h e = fits n h (rw e at (is .small))
+    where
+      fits : (n : ℕ) → unit ≤ 8 → n < 256 ^ 4 → n * unit < 2 ^ 64
+      fits n h k = omega (arith, mul-le-mul (le-of-lt k) h)
+
+-- the length, by the length code
+pub by-code : (s : List ℕ) (set : Settings) (v lc : ℕ) (c : Cursor) → lc ≡ lcOf v → (k : ℕ) (r : Number) → lc ≡ k → r ≡ lengthByLc s set k c → r ≡ lengthOf s set v c
+unfolding lengthOf
+by-code s set v lc c is k r e f = rw (sym is ∙ e) f
+
+-- of eight codes the last is none of the others
+past3 : (lc : ℕ) → (lc ≡ 0 → ⊥) → (lc ≡ 1 → ⊥) → (lc ≡ 2 → ⊥) → (lc ≡ 3 → ⊥) → 3 < lc
+past3 lc n0 n1 n2 n3 = omega arith
+
+past6 : (lc : ℕ) → 3 < lc → (lc ≡ 4 → ⊥) → (lc ≡ 5 → ⊥) → (lc ≡ 6 → ⊥) → 6 < lc
+past6 lc h n4 n5 n6 = omega arith
+
+last : (v lc : ℕ) → lc ≡ lcOf v → 6 < lc → lc ≡ 7
+last v lc is h = omega arith
+
+pub seven : (v lc : ℕ) → lc ≡ lcOf v → (lc ≡ 0 → ⊥) → (lc ≡ 1 → ⊥) → (lc ≡ 2 → ⊥) → (lc ≡ 3 → ⊥) → (lc ≡ 4 → ⊥) → (lc ≡ 5 → ⊥) → (lc ≡ 6 → ⊥) → lc ≡ 7
+seven v lc is n0 n1 n2 n3 n4 n5 n6 = last v lc is (past6 lc (past3 lc n0 n1 n2 n3) n4 n5 n6)
+
+-- a whole header moves the cursor on, by its four bytes at least and not past the end
+short-got : (x : Shortage) (n : ℕ) (d : Cursor) → number.Short x ≡ number.Got n d → ⊥
+short-got x n d e = let z : _≡_ {A = ℕ} 0 1 = cc in omega arith
+
+got-same : (m : ℕ) (y : Cursor) (n : ℕ) (d : Cursor) → number.Got m y ≡ number.Got n d → y ≡ d
+got-same m y n d e = cc
+
+module _ (s : List ℕ) (set : Settings) where
+  nextint-moves : (unit : ℕ) (c : Cursor) (n : ℕ) (d : Cursor) → nextintTimes s set unit c ≡ number.Got n d → Moved s c 4 d
+  unfolding nextintTimes
+  nextint-moves unit c n d e =
+      let a = number-inv number.Short (number.Got n d) (λ x. short-got x n d) (readNumber s set c 4) _ e in
+      rw (got-same _ (a .1) n d (a .3)) at (read-inv s set c 4 (a .0) (a .1) (a .2))
+
+  length-moves : (v : ℕ) (c : Cursor) (n : ℕ) (d : Cursor) → c .pos ≤ length s → lengthOf s set v c ≡ number.Got n d → Moved s c 0 d
+  unfolding lengthOf lengthByLc
+  length-moves v c n d h e = go (ltb (lcOf v) 4) _ _ e
+    where
+      go : (t : Bool) (m unit : ℕ) → pick t (number.Got m c) (nextintTimes s set unit c) ≡ number.Got n d → Moved s c 0 d
+      go true m unit q =
+          let g = got-same m c n d q in
+          let p = ap (λ (x : Cursor). x .pos) g in
+          record { on = omega (arith, p); inside = omega (arith, p); kept = sym (ap (λ (x : Cursor). x .origin) g) }
+      go false m unit q =
+          let a = nextint-moves unit c n d q in
+          record { on = omega (arith, a .on); inside = a .inside; kept = a .kept }
+
+  -- after the header and what else it has
+  whole-moves : (c : Cursor) (v : ℕ) (d : Cursor) (n : ℕ) (y : Cursor) → readNumber s set c 4 ≡ number.Got v d → lengthOf s set v d ≡ number.Got n y → Moved s c 4 y
+  whole-moves c v d n y e f =
+      let a = read-inv s set c 4 v d e in
+      then-moved a (length-moves v d n y (a .inside) f)
+
+  pub turn-moves : (wanted : ℕ) (c z : Cursor) → turnAt s set wanted c ≡ On z → Moved s c 4 z
+  unfolding turnAt judged
+  turn-moves wanted c z e =
+      let a = number-inv ranShort (On z) (λ x. done-on (Short x) z) (readNumber s set c 4) _ e in
+      let b = number-inv ranShort (On z) (λ x. done-on (Short x) z) (lengthOf s set (a .0) (a .1)) _ (a .3) in
+      then-moved (whole-moves c (a .0) (a .1) (b .0) (b .1) (a .2) (b .2))
+      (past-moves s set (b .1) (b .0) z
+      (not-done (eqb (idOf (a .0)) wanted) (Found (b .0) (steppedBack (lcOf (a .0)) (b .1))) (pastValue s set (b .1) (b .0)) z (b .3)))
+
+-- what a header comes to
+module _ (s : List ℕ) (set : Settings) (wanted : ℕ) (c : Cursor) (r : Number) (is : ReadIs s set c 4 r) where
+  pub turn-no-header : (x : Shortage) → r ≡ number.Short x → Done (Short x) ≡ turnAt s set wanted c
+  unfolding turnAt afterNumber
+  turn-no-header x e = rw (sym (is .is) ∙ e)
+
+  module _ (v : ℕ) (d : Cursor) (first : r ≡ number.Got v d) (q : Number) (then : q ≡ lengthOf s set v d) where
+    pub turn-no-nextint : (x : Shortage) → q ≡ number.Short x → Done (Short x) ≡ turnAt s set wanted c
+    unfolding turnAt afterNumber
+    turn-no-nextint x e = rw (sym (is .is) ∙ first, sym then ∙ e)
+
+    module _ (n : ℕ) (y : Cursor) (told : q ≡ number.Got n y) where
+      -- LC 5 can step back
+      pub turn-room : 4 ≤ y .pos
+      turn-room = let a = whole-moves s set c v d n y (sym (is .is) ∙ first) (sym then ∙ told) in omega (arith, a .on)
+
+      pub turn-found-back : (lc : ℕ) (z : Cursor) → v % 268435456 ≡ wanted → lc ≡ lcOf v → lc ≡ 5 → z ≡ cursorAt (y .pos - 4) (y .origin) → Done (Found n z) ≡ turnAt s set wanted c
+      unfolding turnAt afterNumber judged steppedBack
+      turn-found-back lc z e l f g = rw (sym (is .is) ∙ first, sym then ∙ told, eq-eqb _ _ e, sym l ∙ f, g)
+
+      pub turn-found : (lc : ℕ) → v % 268435456 ≡ wanted → lc ≡ lcOf v → (lc ≡ 5 → ⊥) → Done (Found n y) ≡ turnAt s set wanted c
+      unfolding turnAt afterNumber judged steppedBack
+      turn-found lc e l f = rw (sym (is .is) ∙ first, sym then ∙ told, eq-eqb _ _ e, ← l, ne-eqb _ _ f)
+
+      pub turn-past : (t : Turn) → (v % 268435456 ≡ wanted → ⊥) → t ≡ pastValue s set y n → t ≡ turnAt s set wanted c
+      unfolding turnAt afterNumber judged
+      turn-past t e g = rw (sym (is .is) ∙ first, sym then ∙ told, ne-eqb _ _ e) g
+
+-- no header ends the search
+module _ (s : List ℕ) (set : Settings) (wanted : ℕ) where
+  there : (c : Cursor) → turnAt s set wanted c ≡ Done PidNotFound → ⊥
+  unfolding turnAt judged
+  there c e =
+      let a = number-inv ranShort (Done PidNotFound) short-done (readNumber s set c 4) _ e in
+      let b = number-inv ranShort (Done PidNotFound) short-done (lengthOf s set (a .0) (a .1)) _ (a .3) in
+      pick-never (eqb (idOf (a .0)) wanted) (Done (Found (b .0) (steppedBack (lcOf (a .0)) (b .1)))) (pastValue s set (b .1) (b .0)) (Done PidNotFound)
+      (found-done (b .0) (steppedBack (lcOf (a .0)) (b .1))) (past-there s set (b .1) (b .0)) (b .3)
+
+  pub xcdr2-never-missing : (c : Cursor) → seekToPid s set wanted c ≡ PidNotFound → ⊥
+  unfolding seekToPid
+  xcdr2-never-missing c e = never-missing s (turnAt s set wanted) (turn-moves s set wanted) there c e

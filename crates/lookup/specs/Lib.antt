@@ -1,0 +1,5 @@
+pub mod Search
+pub mod Xcdr1
+pub mod Xcdr2
+pub mod Member
+pub mod Dheader

@@ -1,0 +1,81 @@
+-- Laws of what the cycle asks of a type or a member. Assumes nothing.
+use Prim.Native.Nat.{ℕ, _/_, _<_}
+use mathlib.Core.Path.{_≡_, refl, sym, ap, _∙_}
+use mathlib.Core.Bool.{Bool, true, false, _||_, _&&_}
+use mathlib.Core.List.{List}
+use lib.Dec.{eqb}
+use borrow.Author.Tests.{eq-eqb, ne-eqb}
+use Rattle.ground.proofs.Tests.{and-both}
+use Rattle.wire.specs.declared.cursor.Cursor.{Cursor}
+use Rattle.wire.specs.declared.cursor.Place.{Place}
+use Rattle.wire.specs.declared.cursor.Place.the-variants as place
+use Rattle.wire.specs.declared.settings.Settings.{Settings}
+use Rattle.wire.specs.declared.settings.Version.{Version}
+use Rattle.wire.specs.declared.settings.Version.the-variants.{Xcdr1, Xcdr2}
+use Rattle.kinds.specs.declared.Entry.{Entry}
+use Rattle.kinds.specs.Kinds.{elementSizeOf, entryOf, isPrimitive, bitmaskStored}
+use Rattle.kinds.proofs.Table.{element-some}
+use Rattle.book.specs.Types.{BookType, Member, bounded, typeNo}
+use Rattle.book.specs.Places.{typeAt, typesBy, PlaceOf}
+use Rattle.values.specs.Header.{afterDheader}
+use Rattle.reader.specs.Value.{isSequence, primitiveElement, readAs}
+use Rattle.reader.specs.Member.{byLength, elementCount}
+use Rattle.reader.specs.Structure.{absorbs}
+use Rattle.reader.specs.Nested.{isMutable, contentsAt}
+
+pub sequence-is : (t : BookType) (k : ℕ) → k ≡ t .kind → eqb k 25 ≡ isSequence t
+unfolding isSequence
+sequence-is t k e = rw e
+
+pub mutable-is : (t : BookType) (k : ℕ) → k ≡ t .extensibility → eqb k 2 ≡ isMutable t
+unfolding isMutable
+mutable-is t k e = rw e
+
+pub absorbs-is : (t : BookType) (m : Member) (e k : ℕ) → e ≡ t .extensibility → k ≡ m .construct → (eqb e 1 || eqb k 0) ≡ absorbs t m
+unfolding absorbs
+absorbs-is t m e k f g = rw (f, g)
+
+module _ (t : BookType) (k : ℕ) (is : k ≡ t .kind) where
+  pub read-bitmask : k ≡ 19 → (b : Bool) (n r : ℕ) → b ≡ bounded t → n ≡ t .bound → r ≡ bitmaskStored b n → r ≡ readAs t
+  unfolding readAs
+  read-bitmask e b n r f g h =
+      let z : bitmaskStored b n ≡ bitmaskStored (bounded t) (t .bound) = rw (f, g) in
+      rw (eq-eqb (t .kind) 19 (sym is ∙ e)) (h ∙ z)
+
+  pub read-other : (k ≡ 19 → ⊥) → k ≡ readAs t
+  unfolding readAs
+  read-other h = rw (← is, ne-eqb k 19 h)
+
+-- the element's kind, by the place of its type
+module _ (b index : List ℕ) (t : BookType) (ty q k : ℕ) (element : ty ≡ t .element) (at : PlaceOf b index ty q) (kind : k ≡ typeAt b q .kind) where
+  element-kind : k ≡ typeNo (typesBy b index) (t .element) .kind
+  element-kind = kind ∙ ap (λ (x : BookType). x .kind) (at .is) ∙ ap (λ (n : ℕ). typeNo (typesBy b index) n .kind) element
+
+  pub primitive-is : (r : Bool) → r ≡ isPrimitive k → r ≡ primitiveElement (typesBy b index) t
+  unfolding primitiveElement
+  primitive-is r e = e ∙ ap isPrimitive element-kind
+
+  pub count-is : (x : Entry) → x ≡ entryOf k → (length : ℕ) → length / x .element ≡ elementCount (typesBy b index) t length
+  unfolding elementCount
+  count-is x e length = rw e (ap (λ (n : ℕ). length / elementSizeOf n) element-kind)
+
+pub size-some : (k : ℕ) (x : Entry) → x ≡ entryOf k → 0 < x .element
+size-some k x e = rw e (element-some k)
+
+module _ (v : Version) (types : List BookType) (t : BookType) where
+  pub length-never : v ≡ Xcdr1 → false ≡ byLength v types t
+  unfolding byLength
+  length-never e = rw e
+
+  pub length-both : v ≡ Xcdr2 → (x y : Bool) → x ≡ isSequence t → y ≡ primitiveElement types t → (x && y) ≡ byLength v types t
+  unfolding byLength
+  length-both e x y f g = rw (e, ← f, ← g) (and-both x y)
+
+module _ (s : List ℕ) (set : Settings) (t : BookType) (c : Cursor) (k : ℕ) (is : k ≡ t .extensibility) where
+  pub contents-appended : k ≡ 1 → (r : Place) → r ≡ afterDheader s set c → r ≡ contentsAt s set t c
+  unfolding contentsAt
+  contents-appended e r f = rw (← is, eq-eqb k 1 e) f
+
+  pub contents-here : (k ≡ 1 → ⊥) → place.At c ≡ contentsAt s set t c
+  unfolding contentsAt
+  contents-here h = rw (← is, ne-eqb k 1 h)

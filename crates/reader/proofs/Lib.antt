@@ -1,0 +1,8 @@
+mod Asked
+pub mod ValueSteps
+pub mod MemberSteps
+pub mod StructureSteps
+pub mod UnionSteps
+pub mod NestedSteps
+mod Rules
+mod Examples

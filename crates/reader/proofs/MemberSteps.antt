@@ -1,0 +1,146 @@
+-- Laws of members: what each return shows. Assumes nothing.
+use Prim.Native.Nat.{ℕ, zero, suc, _+_, _-_, _≤_, _<_}
+use mathlib.Core.Path.{_≡_, refl, sym, ap, _∙_}
+use mathlib.Core.Bool.{Bool, true, false, _||_, or-assoc, or-false}
+use mathlib.Core.List.{List, [], _∷_}
+use native.Mathlib.Nat.{sub-zero, add-zero}
+use native.Mathlib.Omega.{arith}
+use lib.ListN.{length}
+use lib.Dec.{eqb}
+use borrow.Author.Tests.{eq-eqb, ne-eqb}
+use Rattle.ground.specs.Choice.{pick, among}
+use Rattle.wire.specs.declared.cursor.Cursor.{Cursor}
+use Rattle.wire.specs.declared.cursor.Shortage.{Shortage}
+use Rattle.wire.specs.declared.settings.Settings.{Settings}
+use Rattle.table.specs.declared.out.Refusal.{Refusal}
+use Rattle.table.specs.declared.out.Out.{Out}
+use Rattle.table.specs.declared.out.Out.the-variants.{Read, Short, Refused}
+use Rattle.table.specs.Rows.{row, room, noRoom, putRow, Filled}
+use Rattle.table.specs.Outcome.{Outcome, read, short, refused, roomFor, prepend, andThen, orEndIf, closed, backTo, Done}
+use Rattle.table.proofs.Filling.{filled-none, filled-kept, filled-below, filled-one, filled-row, full-fits, room-used}
+use Rattle.table.proofs.Outcomes.{is-read, is-short, is-refused, is-same, is-after, no-room, some-room, was-read, was-short, was-refused, then-read, then-short, then-refused, end-read, end-ended, end-short, end-refused, Sofar, sofar-start, sofar-more, sofar-read, sofar-short, sofar-refused}
+use Rattle.wire.specs.declared.settings.Version.{Version}
+use Rattle.wire.specs.declared.settings.Version.the-variants.{Xcdr1, Xcdr2}
+use Rattle.wire.specs.declared.number.Boolean.{Boolean}
+use Rattle.wire.specs.declared.number.Boolean.the-variants as boolean
+use Rattle.wire.specs.Number.{readBoolean}
+use Rattle.wire.specs.Place.{broughtBack}
+use Rattle.book.specs.Types.{BookType, Member, optional, typeNo}
+use Rattle.book.specs.Places.{memberAt, typeAt, typesBy, PlaceOf}
+use Rattle.lookup.specs.Member.{locate}
+use Rattle.lookup.specs.declared.member.Located.{Located}
+use Rattle.lookup.specs.declared.member.Located.the-variants as located
+use Rattle.table.specs.declared.out.Refusal.the-variants.{InvalidData}
+use Rattle.reader.specs.Value.{Nest, elementsOf, valueOf}
+use Rattle.reader.specs.Member.{byLength, elementCount, foundBy, foundOf, onLocated, mmemberOf, onPresent, optionalBy, fmemberBy, fmemberOf}
+
+module _ (b index s : List ℕ) (set : Settings) (nest : Nest) (p : ℕ) (c : Cursor) (t : List ℕ) (n : ℕ) where
+  abbrev m : Member
+  m = memberAt b p
+
+  -- the value of a member that was found
+  module _ (length ty q : ℕ) (type : ty ≡ memberAt b p .type) (at : PlaceOf b index ty q) (y : Bool) (g : y ≡ byLength (set .version) (typesBy b index) (typeAt b q)) (i : ℕ) (named : i ≡ memberAt b p .id) where
+    abbrev found : Outcome
+    found = foundOf (typesBy b index) s set nest m length c (room t n)
+
+    typed : typeAt b q ≡ typeNo (typesBy b index) (m .type)
+    typed = at .is ∙ ap (typeNo (typesBy b index)) type
+
+    asked : byLength (set .version) (typesBy b index) (typeNo (typesBy b index) (m .type)) ≡ y
+    asked = ap (byLength (set .version) (typesBy b index)) (sym typed) ∙ sym g
+
+    pub found-length : y ≡ true → (count e : ℕ) → count ≡ elementCount (typesBy b index) (typeAt b q) length → e ≡ typeAt b q .element → (u : List ℕ) (r : Out)
+        → Done (elementsOf (typesBy b index) s set nest e i count c (room t n)) n t u r → Done found n t u r
+    unfolding foundOf foundBy
+    found-length h count e j k u r d =
+        let e1 : typeNo (typesBy b index) (m .type) .element ≡ e = ap (λ (x : BookType). x .element) (sym typed) ∙ sym k in
+        let e2 : elementCount (typesBy b index) (typeNo (typesBy b index) (m .type)) length ≡ count = ap (λ (x : BookType). elementCount (typesBy b index) x length) (sym typed) ∙ sym j in
+        is-same (ap (λ (z : Bool). foundBy (typesBy b index) s set nest z m length c (room t n)) (asked ∙ h)
+        ∙ ap (λ (z : ℕ). elementsOf (typesBy b index) s set nest z (m .id) (elementCount (typesBy b index) (typeNo (typesBy b index) (m .type)) length) c (room t n)) e1
+        ∙ ap (λ (z : ℕ). elementsOf (typesBy b index) s set nest e (m .id) z c (room t n)) e2
+        ∙ ap (λ (z : ℕ). elementsOf (typesBy b index) s set nest e z count c (room t n)) (sym named)) d
+
+    pub found-value : y ≡ false → (u : List ℕ) (r : Out) → Done (valueOf (typesBy b index) s set nest ty i c (room t n)) n t u r → Done found n t u r
+    unfolding foundOf foundBy
+    found-value h u r d = is-same (ap (λ (z : Bool). foundBy (typesBy b index) s set nest z m length c (room t n)) (asked ∙ h) ∙ rw (← type, ← named)) d
+
+  -- a member by its lookup
+  module _ (i : ℕ) (named : i ≡ memberAt b p .id) (g : Located) (is : g ≡ locate s set i c) where
+    abbrev looked : Outcome
+    looked = mmemberOf (typesBy b index) s set nest m c (room t n)
+
+    at-id : locate s set (m .id) c ≡ g
+    at-id = ap (λ (x : ℕ). locate s set x c) (sym named) ∙ sym is
+
+    pub mmember-short : (x : Shortage) → g ≡ located.Short x → Done looked n t t (Short x)
+    unfolding mmemberOf onLocated
+    mmember-short x e = is-short (rw (at-id ∙ e)) (filled-none t n)
+
+    pub mmember-absent : (back : Cursor) → g ≡ located.Absent back → Done looked n t t (Read back n)
+    unfolding mmemberOf onLocated
+    mmember-absent back e = is-read {rs = []} (rw (at-id ∙ e)) (sym (add-zero n)) (filled-none t n)
+
+    module _ (length : ℕ) (d back : Cursor) (e : g ≡ located.Found length d back) (u : List ℕ) (r : Out) (h : Done (foundOf (typesBy b index) s set nest m length d (room t n)) n t u r) where
+      came : looked ≡ backTo back (foundOf (typesBy b index) s set nest m length d (room t n))
+      unfolding mmemberOf onLocated
+      came = rw (at-id ∙ e)
+
+      pub mmember-read : (f : Cursor) (k : ℕ) → r ≡ Read f k → Done looked n t u (Read back k)
+      unfolding backTo
+      mmember-read f k q = let w = was-read h q in is-read (came ∙ ap (backTo back) (w .is)) (w .count) (w .filled)
+
+      pub mmember-fell : (x y : Shortage) → r ≡ Short x → y ≡ broughtBack x back → Done looked n t u (Short y)
+      unfolding backTo
+      mmember-fell x y q j = let w = was-short h q in is-short (came ∙ ap (backTo back) (w .is) ∙ ap short (sym j)) (w .filled)
+
+      pub mmember-refused : (k : Refusal) → r ≡ Refused k → Done looked n t u (Refused k)
+      unfolding backTo
+      mmember-refused k q = let w = was-refused h q in is-refused (came ∙ ap (backTo back) (w .is)) (w .filled)
+
+  -- an optional member
+  abbrev asked-for : Outcome
+  asked-for = optionalBy (typesBy b index) s set nest (set .version) m c (room t n)
+
+  pub optional-looked : set .version ≡ Xcdr1 → (u : List ℕ) (r : Out) → Done (mmemberOf (typesBy b index) s set nest m c (room t n)) n t u r → Done asked-for n t u r
+  unfolding optionalBy
+  optional-looked e u r d = is-same (ap (λ (v : Version). optionalBy (typesBy b index) s set nest v m c (room t n)) e) d
+
+  module _ (e : set .version ≡ Xcdr2) (g : Boolean) (is : g ≡ readBoolean s set c) where
+    present : asked-for ≡ onPresent (typesBy b index) s set nest m (room t n) g
+    unfolding optionalBy
+    present = ap (λ (v : Version). optionalBy (typesBy b index) s set nest v m c (room t n)) e ∙ ap (onPresent (typesBy b index) s set nest m (room t n)) (sym is)
+
+    pub optional-short : (x : Shortage) → g ≡ boolean.Short x → Done asked-for n t t (Short x)
+    unfolding onPresent
+    optional-short x f = is-short (present ∙ ap (onPresent (typesBy b index) s set nest m (room t n)) f) (filled-none t n)
+
+    pub optional-bad : g ≡ boolean.Bad → Done asked-for n t t (Refused InvalidData)
+    unfolding onPresent
+    optional-bad f = is-refused (present ∙ ap (onPresent (typesBy b index) s set nest m (room t n)) f) (filled-none t n)
+
+    module _ (y : Bool) (d : Cursor) (f : g ≡ boolean.Got y d) where
+      pub optional-absent : y ≡ false → Done asked-for n t t (Read d n)
+      unfolding onPresent
+      optional-absent h = is-read {rs = []} (present ∙ ap (onPresent (typesBy b index) s set nest m (room t n)) (f ∙ ap (λ (z : Bool). boolean.Got z d) h)) (sym (add-zero n)) (filled-none t n)
+
+      pub optional-present : y ≡ true → (ty i : ℕ) → ty ≡ memberAt b p .type → i ≡ memberAt b p .id → (u : List ℕ) (r : Out) → Done (valueOf (typesBy b index) s set nest ty i d (room t n)) n t u r → Done asked-for n t u r
+      unfolding onPresent
+      optional-present h ty i j k u r w =
+          is-same (present ∙ ap (onPresent (typesBy b index) s set nest m (room t n)) (f ∙ ap (λ (z : Bool). boolean.Got z d) h) ∙ rw (← j, ← k)) w
+
+  -- a member of a Final or Appendable type
+  module _ (o : Bool) (is : o ≡ optional (memberAt b p)) where
+    abbrev final : Outcome
+    final = fmemberOf (typesBy b index) s set nest m c (room t n)
+
+    by : (z : Bool) → o ≡ z → final ≡ fmemberBy (typesBy b index) s set nest z m c (room t n)
+    unfolding fmemberOf
+    by z e = ap (λ (y : Bool). fmemberBy (typesBy b index) s set nest y m c (room t n)) (sym is ∙ e)
+
+    pub fmember-optional : o ≡ true → (u : List ℕ) (r : Out) → Done asked-for n t u r → Done final n t u r
+    unfolding fmemberBy
+    fmember-optional e u r d = is-same (by true e) d
+
+    pub fmember-value : o ≡ false → (ty i : ℕ) → ty ≡ memberAt b p .type → i ≡ memberAt b p .id → (u : List ℕ) (r : Out) → Done (valueOf (typesBy b index) s set nest ty i c (room t n)) n t u r → Done final n t u r
+    unfolding fmemberBy
+    fmember-value e ty i j k u r d = is-same (by false e ∙ rw (← j, ← k)) d

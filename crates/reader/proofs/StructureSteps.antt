@@ -1,0 +1,169 @@
+-- Laws of structures: the two runs of members, and their ends. Assumes nothing.
+use Prim.Native.Nat.{ℕ, zero, suc, _+_, _-_, _≤_, _<_}
+use mathlib.Core.Path.{_≡_, refl, sym, ap, _∙_}
+use mathlib.Core.Bool.{Bool, true, false, _||_, or-assoc, or-false}
+use mathlib.Core.List.{List, [], _∷_, _++_, append-nil}
+use native.Mathlib.Nat.{sub-zero, add-zero}
+use native.Mathlib.Omega.{arith}
+use lib.ListN.{length}
+use lib.Dec.{eqb}
+use borrow.Author.Tests.{eq-eqb, ne-eqb}
+use Rattle.ground.specs.Choice.{pick, among}
+use Rattle.wire.specs.declared.cursor.Cursor.{Cursor}
+use Rattle.wire.specs.declared.cursor.Shortage.{Shortage}
+use Rattle.wire.specs.declared.settings.Settings.{Settings}
+use Rattle.table.specs.declared.out.Refusal.{Refusal}
+use Rattle.table.specs.declared.out.Out.{Out}
+use Rattle.table.specs.declared.out.Out.the-variants.{Read, Short, Refused}
+use Rattle.table.specs.Rows.{row, room, noRoom, putRow, Filled}
+use Rattle.table.specs.Outcome.{Outcome, read, short, refused, roomFor, prepend, andThen, orEndIf, closed, backTo, Done}
+use Rattle.table.proofs.Filling.{filled-none, filled-kept, filled-below, filled-one, filled-row, full-fits, room-used}
+use Rattle.table.proofs.Outcomes.{is-read, is-short, is-refused, is-same, is-after, no-room, some-room, was-read, was-short, was-refused, then-read, then-short, then-refused, end-read, end-ended, end-short, end-refused, Sofar, sofar-start, sofar-more, sofar-read, sofar-short, sofar-refused}
+use Rattle.wire.specs.declared.cursor.Place.{Place}
+use Rattle.wire.specs.declared.cursor.Place.the-variants as place
+use Rattle.wire.specs.declared.settings.Version.the-variants.{Xcdr1, Xcdr2}
+use Rattle.wire.specs.Place.{cursorAt}
+use Rattle.wire.proofs.Moves.{after-at, after-short}
+use Rattle.book.specs.declared.member.Run.{Run}
+use Rattle.book.specs.Types.{BookType, Member}
+use Rattle.book.specs.Places.{memberAt, typeAt, listed, later, Started, After}
+use Rattle.book.proofs.Places.{run-more, run-none}
+use Rattle.lookup.specs.Xcdr1.{seekToSentinel}
+use Rattle.lookup.specs.Dheader.{endingAt}
+use Rattle.lookup.specs.declared.dheader.Ending.{Ending}
+use Rattle.lookup.specs.declared.dheader.Ending.the-variants as ending
+use Rattle.reader.specs.Value.{Nest}
+use Rattle.reader.specs.Member.{fmemberOf, mmemberOf}
+use Rattle.reader.specs.Structure.{absorbs, fmembersOf, mmembersOf, atSentinel, onEnding, mstructBy}
+
+module _ (types : List BookType) (s : List ℕ) (set : Settings) (nest : Nest) (b : List ℕ) (at : ℕ) where
+  abbrev type : BookType
+  type = typeAt b at
+
+  -- members in order, with those that are left
+  abbrev pub FinalSofar : Outcome → ℕ → List ℕ → List ℕ → Run → Cursor → ℕ → Type 0
+  FinalSofar whole n t u ms c m = Sofar whole (fmembersOf types s set nest (typeAt b at) (listed b ms) c (room u m)) n t u m
+
+  pub fstruct-start : (c : Cursor) (t : List ℕ) (n : ℕ) (ms : Run) → Started b at ms → FinalSofar (fmembersOf types s set nest (typeAt b at) (typeAt b at .members) c (room t n)) n t t ms c n
+  fstruct-start c t n ms e = sofar-start (ap (λ (l : List Member). fmembersOf types s set nest type l c (room t n)) (sym (e .is)))
+
+  module _ (whole : Outcome) (n : ℕ) (t u : List ℕ) (ms : Run) (c : Cursor) (m : ℕ) (inv : FinalSofar whole n t u ms c m) where
+    module _ (l : 0 < ms .left) (v : List ℕ) (r : Out) (h : Done (fmemberOf types s set nest (memberAt b (ms .at)) c (room u m)) m u v r) where
+      more : fmembersOf types s set nest type (listed b ms) c (room u m)
+          ≡ orEndIf (absorbs type (memberAt b (ms .at))) (fmemberOf types s set nest (memberAt b (ms .at)) c (room u m)) (λ d used. fmembersOf types s set nest type (later b ms) d (room u m - used))
+      unfolding fmembersOf
+      more = rw (run-more b ms l)
+
+      pub fstruct-turn : (d : Cursor) (k : ℕ) (ns : Run) → r ≡ Read d k → After b ms ns → FinalSofar whole n t v ns d k
+      fstruct-turn d k ns q a =
+          let w = was-read h q in
+          let z : room u m - length (w .new) ≡ room v k = room-used u v m (length (w .new)) (w .filled .long) ∙ ap (room v) (sym (w .count)) in
+          sofar-more inv
+          (more ∙ end-read _ (absorbs type (memberAt b (ms .at))) (w .is)
+          ∙ ap (λ (x : ℕ). prepend (w .new) (fmembersOf types s set nest type (later b ms) d x)) z
+          ∙ ap (λ (x : List Member). prepend (w .new) (fmembersOf types s set nest type x d (room v k))) (sym (a .is)))
+          (w .count) (w .filled)
+
+      pub fstruct-ended : (x : Shortage) (a : Bool) → r ≡ Short x → a ≡ absorbs (typeAt b at) (memberAt b (ms .at)) → a ≡ true → Done whole n t v (Read (x .at) m)
+      fstruct-ended x a q e f = let w = was-short h q in sofar-read inv (more ∙ end-ended _ (absorbs type (memberAt b (ms .at))) (sym e ∙ f) (w .is)) (w .filled)
+
+      pub fstruct-short : (x : Shortage) (a : Bool) → r ≡ Short x → a ≡ absorbs (typeAt b at) (memberAt b (ms .at)) → a ≡ false → Done whole n t v (Short x)
+      fstruct-short x a q e f = let w = was-short h q in sofar-short inv (more ∙ end-short _ (absorbs type (memberAt b (ms .at))) (sym e ∙ f) (w .is)) (w .filled)
+
+      pub fstruct-refused : (k : Refusal) → r ≡ Refused k → Done whole n t v (Refused k)
+      fstruct-refused k q = let w = was-refused h q in sofar-refused inv (more ∙ end-refused _ (absorbs type (memberAt b (ms .at))) (w .is)) (w .filled)
+
+    pub fstruct-end : ms .left ≤ 0 → Done whole n t u (Read c m)
+    unfolding fmembersOf
+    fstruct-end l = sofar-read inv (rw (run-none b ms l)) (filled-none u m)
+
+  -- members by their lookups, with those that are left
+  abbrev pub LookedSofar : Outcome → ℕ → List ℕ → List ℕ → Run → Cursor → ℕ → Type 0
+  LookedSofar whole n t u ms c m = Sofar whole (mmembersOf types s set nest (listed b ms) c (room u m)) n t u m
+
+  pub mmembers-start : (c : Cursor) (t : List ℕ) (n : ℕ) (ms : Run) → Started b at ms → LookedSofar (mmembersOf types s set nest (typeAt b at .members) c (room t n)) n t t ms c n
+  mmembers-start c t n ms e = sofar-start (ap (λ (l : List Member). mmembersOf types s set nest l c (room t n)) (sym (e .is)))
+
+  module _ (whole : Outcome) (n : ℕ) (t u : List ℕ) (ms : Run) (c : Cursor) (m : ℕ) (inv : LookedSofar whole n t u ms c m) where
+    module _ (l : 0 < ms .left) (v : List ℕ) (r : Out) (h : Done (mmemberOf types s set nest (memberAt b (ms .at)) c (room u m)) m u v r) where
+      next : mmembersOf types s set nest (listed b ms) c (room u m)
+          ≡ andThen (mmemberOf types s set nest (memberAt b (ms .at)) c (room u m)) (λ d used. mmembersOf types s set nest (later b ms) d (room u m - used))
+      unfolding mmembersOf
+      next = rw (run-more b ms l)
+
+      pub mmembers-turn : (d : Cursor) (k : ℕ) (ns : Run) → r ≡ Read d k → After b ms ns → LookedSofar whole n t v ns d k
+      mmembers-turn d k ns q a =
+          let w = was-read h q in
+          let z : room u m - length (w .new) ≡ room v k = room-used u v m (length (w .new)) (w .filled .long) ∙ ap (room v) (sym (w .count)) in
+          sofar-more inv
+          (next ∙ then-read _ (w .is)
+          ∙ ap (λ (x : ℕ). prepend (w .new) (mmembersOf types s set nest (later b ms) d x)) z
+          ∙ ap (λ (x : List Member). prepend (w .new) (mmembersOf types s set nest x d (room v k))) (sym (a .is)))
+          (w .count) (w .filled)
+
+      pub mmembers-short : (x : Shortage) → r ≡ Short x → Done whole n t v (Short x)
+      mmembers-short x q = let w = was-short h q in sofar-short inv (next ∙ then-short _ (w .is)) (w .filled)
+
+      pub mmembers-refused : (k : Refusal) → r ≡ Refused k → Done whole n t v (Refused k)
+      mmembers-refused k q = let w = was-refused h q in sofar-refused inv (next ∙ then-refused _ (w .is)) (w .filled)
+
+    pub mmembers-end : ms .left ≤ 0 → Done whole n t u (Read c m)
+    unfolding mmembersOf
+    mmembers-end l = sofar-read inv (rw (run-none b ms l)) (filled-none u m)
+
+  -- a Mutable structure of XCDR1
+  module _ (c : Cursor) (t : List ℕ) (n : ℕ) (u : List ℕ) (r : Out) (h : Done (mmembersOf types s set nest (typeAt b at .members) c (room t n)) n t u r) where
+    abbrev first : Outcome
+    first = mstructBy types s set nest Xcdr1 (typeAt b at) c (room t n)
+
+    is-first : first ≡ andThen (mmembersOf types s set nest (typeAt b at .members) c (room t n)) (λ d used. atSentinel types s set nest d)
+    unfolding mstructBy
+    is-first = refl
+
+    pub first-read : (d : Cursor) (m : ℕ) (g : Place) (e : Cursor) → r ≡ Read d m → g ≡ seekToSentinel s set d → g ≡ place.At e → Done first n t u (Read e m)
+    unfolding atSentinel prepend
+    first-read d m g e q i j =
+        let w = was-read h q in
+        is-read {rs = w .new} (is-first ∙ then-read _ (w .is) ∙ ap (prepend (w .new)) (after-at _ _ (sym i ∙ j)) ∙ ap (read e) (append-nil (w .new))) (w .count) (w .filled)
+
+    pub first-lost : (d : Cursor) (m : ℕ) (g : Place) (x : Shortage) → r ≡ Read d m → g ≡ seekToSentinel s set d → g ≡ place.Short x → Done first n t u (Short x)
+    unfolding atSentinel prepend
+    first-lost d m g x q i j =
+        let w = was-read h q in
+        is-short (is-first ∙ then-read _ (w .is) ∙ ap (prepend (w .new)) (after-short _ _ (sym i ∙ j))) (filled-kept (w .filled))
+
+    pub first-short : (x : Shortage) → r ≡ Short x → Done first n t u (Short x)
+    first-short x q = let w = was-short h q in is-short (is-first ∙ then-short _ (w .is)) (w .filled)
+
+    pub first-refused : (k : Refusal) → r ≡ Refused k → Done first n t u (Refused k)
+    first-refused k q = let w = was-refused h q in is-refused (is-first ∙ then-refused _ (w .is)) (w .filled)
+
+  -- a Mutable structure of XCDR2
+  module _ (c : Cursor) (t : List ℕ) (n : ℕ) (g : Ending) (is : g ≡ endingAt s set c) where
+    abbrev second : Outcome
+    second = mstructBy types s set nest Xcdr2 (typeAt b at) c (room t n)
+
+    by : (e : Ending) → g ≡ e → second ≡ onEnding types s set nest type (room t n) e
+    unfolding mstructBy
+    by e q = ap (onEnding types s set nest type (room t n)) (sym is ∙ q)
+
+    pub second-none : (x : Shortage) → g ≡ ending.Short x → Done second n t t (Short x)
+    unfolding onEnding
+    second-none x q = is-short (by (ending.Short x) q) (filled-none t n)
+
+    module _ (end : ℕ) (d : Cursor) (q : g ≡ ending.At end d) (u : List ℕ) (r : Out) (h : Done (mmembersOf types s set nest (typeAt b at .members) d (room t n)) n t u r) where
+      is-second : second ≡ andThen (mmembersOf types s set nest (typeAt b at .members) d (room t n)) (λ e used. read (cursorAt end (e .origin)) [])
+      unfolding onEnding
+      is-second = by (ending.At end d) q
+
+      pub second-read : (e f : Cursor) (m : ℕ) → r ≡ Read e m → f ≡ cursorAt end (e .origin) → Done second n t u (Read f m)
+      unfolding prepend
+      second-read e f m i j =
+          let w = was-read h i in
+          is-read {rs = w .new} (is-second ∙ then-read _ (w .is) ∙ ap (λ (y : Cursor). read y (w .new ++ [])) (sym j) ∙ ap (read f) (append-nil (w .new))) (w .count) (w .filled)
+
+      pub second-short : (x : Shortage) → r ≡ Short x → Done second n t u (Short x)
+      second-short x i = let w = was-short h i in is-short (is-second ∙ then-short _ (w .is)) (w .filled)
+
+      pub second-refused : (k : Refusal) → r ≡ Refused k → Done second n t u (Refused k)
+      second-refused k i = let w = was-refused h i in is-refused (is-second ∙ then-refused _ (w .is)) (w .filled)

@@ -1,0 +1,159 @@
+-- Laws of a value and of lists of opened values: what each return and each turn shows. Assumes nothing.
+use Prim.Native.Nat.{ℕ, zero, suc, _+_, _-_, _≤_, _<_}
+use mathlib.Core.Path.{_≡_, refl, sym, ap, _∙_}
+use mathlib.Core.Bool.{Bool, true, false, _||_, or-false}
+use mathlib.Core.List.{List, [], _∷_}
+use native.Mathlib.Nat.{sub-zero, add-zero}
+use native.Mathlib.Omega.{arith}
+use lib.ListN.{length}
+use lib.Dec.{eqb}
+use borrow.Author.Tests.{eq-eqb, ne-eqb}
+use Rattle.ground.specs.Choice.{pick, among}
+use Rattle.wire.specs.declared.cursor.Cursor.{Cursor}
+use Rattle.wire.specs.declared.cursor.Shortage.{Shortage}
+use Rattle.wire.specs.declared.settings.Settings.{Settings}
+use Rattle.table.specs.declared.out.Refusal.{Refusal}
+use Rattle.table.specs.declared.out.Out.{Out}
+use Rattle.table.specs.declared.out.Out.the-variants.{Read, Short, Refused}
+use Rattle.table.specs.Rows.{row, room, noRoom, putRow, Filled}
+use Rattle.table.specs.Outcome.{Outcome, read, short, refused, roomFor, prepend, andThen, orEndIf, closed, backTo, Done}
+use Rattle.table.proofs.Filling.{filled-none, filled-kept, filled-below, filled-one, filled-row, full-fits, room-used}
+use Rattle.table.proofs.Outcomes.{is-read, is-short, is-refused, is-same, is-after, no-room, some-room, was-read, was-short, was-refused, then-read, then-short, then-refused, end-read, end-ended, end-short, end-refused, Sofar, sofar-start, sofar-more, sofar-read, sofar-short, sofar-refused}
+use Rattle.wire.specs.declared.number.Number.{Number}
+use Rattle.wire.specs.declared.number.Number.the-variants as number
+use Rattle.wire.specs.Number.{afterNumber}
+use Rattle.wire.proofs.Numbers.{after-got, after-none}
+use Rattle.kinds.specs.Kinds.{unsupportedMember, unsupportedElement, opens}
+use Rattle.book.specs.Types.{BookType, typeNo}
+use Rattle.book.specs.Places.{typeAt, typesBy, PlaceOf}
+use Rattle.table.specs.declared.out.Refusal.the-variants.{Unsupported, NoRoom}
+use Rattle.values.specs.Scalar.{scalarOf}
+use Rattle.values.specs.List.{listOf, blockOf}
+use Rattle.values.specs.Header.{countFrom}
+use Rattle.reader.specs.Value.{Nest, isSequence, primitiveElement, readAs, openedFrom, openedList, elementsOf, listValue, valueOf}
+
+-- a run of opened elements
+module _ (types : List BookType) (s : List ℕ) (set : Settings) (nest : Nest) (ty count : ℕ) where
+  more : (i : ℕ) (c : Cursor) (k : ℕ) → i < count → openedFrom types s set nest ty (count - i) i c k ≡ andThen (nest ty i c k) (λ d used. openedFrom types s set nest ty (count - (i + 1)) (i + 1) d (k - used))
+  unfolding openedFrom
+  more i c k h = let e : count - i ≡ suc (count - (i + 1)) = omega arith in rw e
+
+  none : (i : ℕ) (c : Cursor) (k : ℕ) → count ≤ i → openedFrom types s set nest ty (count - i) i c k ≡ read c []
+  unfolding openedFrom
+  none i c k h = let e : count - i ≡ 0 = omega arith in rw e
+
+  abbrev pub ComplexSofar : Outcome → ℕ → List ℕ → List ℕ → ℕ → Cursor → ℕ → Type 0
+  ComplexSofar whole n t u i c m = Sofar whole (openedFrom types s set nest ty (count - i) i c (room u m)) n t u m
+
+  pub complex-start : (c : Cursor) (t : List ℕ) (n : ℕ) → ComplexSofar (openedFrom types s set nest ty count 0 c (room t n)) n t t 0 c n
+  complex-start c t n = sofar-start (rw sub-zero)
+
+  module _ (whole : Outcome) (n : ℕ) (t u : List ℕ) (i : ℕ) (c : Cursor) (m : ℕ) (inv : ComplexSofar whole n t u i c m) where
+    module _ (l : i < count) (v : List ℕ) (r : Out) (h : Done (nest ty i c (room u m)) m u v r) where
+      pub complex-turn : (d : Cursor) (k : ℕ) → r ≡ Read d k → ComplexSofar whole n t v (i + 1) d k
+      complex-turn d k q =
+          let w = was-read h q in
+          let z : room u m - length (w .new) ≡ room v k = room-used u v m (length (w .new)) (w .filled .long) ∙ ap (room v) (sym (w .count)) in
+          sofar-more inv (more i c (room u m) l ∙ then-read _ (w .is) ∙ ap (λ (x : ℕ). prepend (w .new) (openedFrom types s set nest ty (count - (i + 1)) (i + 1) d x)) z) (w .count) (w .filled)
+
+      pub complex-short : (x : Shortage) → r ≡ Short x → Done whole n t v (Short x)
+      complex-short x q = let w = was-short h q in sofar-short inv (more i c (room u m) l ∙ then-short _ (w .is)) (w .filled)
+
+      pub complex-refused : (k : Refusal) → r ≡ Refused k → Done whole n t v (Refused k)
+      complex-refused k q = let w = was-refused h q in sofar-refused inv (more i c (room u m) l ∙ then-refused _ (w .is)) (w .filled)
+
+    pub complex-end : count ≤ i → Done whole n t u (Read c m)
+    complex-end h = sofar-read inv (none i c (room u m) h) (filled-none u m)
+
+-- by a type's kind: the type with a number stands at a place of the book
+module _ (b index s : List ℕ) (set : Settings) (nest : Nest) (ty id : ℕ) (c : Cursor) (t : List ℕ) (n p k : ℕ) (at : PlaceOf b index ty p) (kind : k ≡ typeAt b p .kind) where
+  kind-no : typeNo (typesBy b index) ty .kind ≡ k
+  kind-no = sym (kind ∙ ap (λ (x : BookType). x .kind) (at .is))
+
+  -- a test of the kind, asked of the type's (a rewrite of the kind itself would open the whole type)
+  tested : (f : ℕ → Bool) (x z : Bool) → x ≡ f k → x ≡ z → f (typeNo (typesBy b index) ty .kind) ≡ z
+  tested f x z e g = ap f kind-no ∙ sym e ∙ g
+
+  -- the elements of a list
+  module _ (count : ℕ) where
+    abbrev elements : Outcome
+    elements = elementsOf (typesBy b index) s set nest ty id count c (room t n)
+
+    pub elements-unsupported : (x : Bool) → x ≡ unsupportedElement k → x ≡ true → Done elements n t t (Refused Unsupported)
+    unfolding elementsOf
+    elements-unsupported x e f = is-refused (rw (tested unsupportedElement x true e f)) (filled-none t n)
+
+    module _ (x : Bool) (e : x ≡ unsupportedElement k) (f : x ≡ false) (y : Bool) (g : y ≡ opens k) where
+      opened-list : y ≡ true → elements ≡ roomFor (room t n) (prepend (row 25 id k count ∷ []) (openedFrom (typesBy b index) s set nest ty count 0 c (room t n - 1)))
+      unfolding elementsOf openedList
+      opened-list h = rw (kind-no, ← e, f, ← g, h)
+
+      pub elements-full : y ≡ true → (z : Bool) → z ≡ noRoom t n → z ≡ true → Done elements n t t (Refused NoRoom)
+      elements-full h z i j = is-refused (opened-list h ∙ no-room t n _ z i j) (filled-none t n)
+
+      pub elements-complex : y ≡ true → (z : Bool) → z ≡ noRoom t n → z ≡ false → (u : List ℕ) → u ≡ putRow t n (row 25 id k count) → (v : List ℕ) (r : Out)
+          → Done (openedFrom (typesBy b index) s set nest ty count 0 c (room u (n + 1))) (n + 1) u v r → Done elements n t v r
+      elements-complex h z i j u q v r d =
+          let w : Filled t u n (row 25 id k count ∷ []) = rw q (filled-one t n (row 25 id k count) (full-fits t n z i j)) in
+          is-same (opened-list h ∙ some-room t n _ z i j ∙ ap (λ (m : ℕ). prepend (row 25 id k count ∷ []) (openedFrom (typesBy b index) s set nest ty count 0 c m)) (room-used t u n 1 (w .long))) (is-after w d)
+
+      bytes-among : (eqb k 2 || eqb k 13) ≡ among (2 ∷ 13 ∷ []) k
+      bytes-among = simp or-false
+
+      pub elements-block : y ≡ false → (eqb k 2 || eqb k 13) ≡ true → (u : List ℕ) (r : Out) → Done (blockOf s set k id count c (room t n)) n t u r → Done elements n t u r
+      unfolding elementsOf
+      elements-block h i u r d = is-same (rw (kind-no, ← e, f, ← g, h, sym bytes-among ∙ i)) d
+
+      pub elements-list : y ≡ false → (eqb k 2 || eqb k 13) ≡ false → (a : ℕ) → a ≡ readAs (typeAt b p) → (u : List ℕ) (r : Out) → Done (listOf s set a id count c (room t n)) n t u r → Done elements n t u r
+      unfolding elementsOf
+      elements-list h i a j u r d =
+          is-same (rw (tested unsupportedElement x false e f, tested opens y false g h, tested (among (2 ∷ 13 ∷ [])) _ false bytes-among i) (ap (λ (m : ℕ). listOf s set m id count c (room t n)) (ap readAs (sym (at .is)) ∙ sym j))) d
+
+  -- a value
+  abbrev valued : Outcome
+  valued = valueOf (typesBy b index) s set nest ty id c (room t n)
+
+  pub value-none : k ≡ 0 → Done valued n t t (Read c n)
+  unfolding valueOf
+  value-none e = is-read {rs = []} (rw (kind-no, e)) (sym (add-zero n)) (filled-none t n)
+
+  module _ (some : k ≡ 0 → ⊥) (x : Bool) (e : x ≡ unsupportedMember k) where
+    pub value-unsupported : x ≡ true → Done valued n t t (Refused Unsupported)
+    unfolding valueOf
+    value-unsupported f = is-refused (rw (kind-no, ne-eqb k 0 some, ← e, f)) (filled-none t n)
+
+    module _ (f : x ≡ false) (y : Bool) (g : y ≡ opens k) where
+      here : eqb (typeNo (typesBy b index) ty .kind) 0 ≡ false
+      here = ap (λ (z : ℕ). eqb z 0) kind-no ∙ ne-eqb k 0 some
+
+      pub value-nested : y ≡ true → (u : List ℕ) (r : Out) → Done (nest ty id c (room t n)) n t u r → Done valued n t u r
+      unfolding valueOf
+      value-nested h u r d = is-same (rw (kind-no, ne-eqb k 0 some, ← e, f, ← g, h)) d
+
+      list-among : (eqb k 25 || eqb k 26) ≡ among (25 ∷ 26 ∷ []) k
+      list-among = simp or-false
+
+      pub value-list : y ≡ false → (eqb k 25 || eqb k 26) ≡ true → (u : List ℕ) (r : Out) → Done (listValue (typesBy b index) s set nest (typeAt b p) id c (room t n)) n t u r → Done valued n t u r
+      unfolding valueOf
+      value-list h i u r d =
+          is-same (rw (here, tested unsupportedMember x false e f, tested opens y false g h, tested (among (25 ∷ 26 ∷ [])) _ true list-among i) (ap (λ (z : BookType). listValue (typesBy b index) s set nest z id c (room t n)) (sym (at .is)))) d
+
+      pub value-scalar : y ≡ false → (eqb k 25 || eqb k 26) ≡ false → (a : ℕ) → a ≡ readAs (typeAt b p) → (u : List ℕ) (r : Out) → Done (scalarOf s set a id c (room t n)) n t u r → Done valued n t u r
+      unfolding valueOf
+      value-scalar h i a j u r d =
+          is-same (rw (here, tested unsupportedMember x false e f, tested opens y false g h, tested (among (25 ∷ 26 ∷ [])) _ false list-among i) (ap (λ (m : ℕ). scalarOf s set m id c (room t n)) (ap readAs (sym (at .is)) ∙ sym j))) d
+
+-- a list: its count, then its elements
+module _ (b index s : List ℕ) (set : Settings) (nest : Nest) (at id : ℕ) (c : Cursor) (t : List ℕ) (n : ℕ) (p q : Bool) (m : ℕ)
+    (primitive : p ≡ primitiveElement (typesBy b index) (typeAt b at)) (sequence : q ≡ isSequence (typeAt b at)) (bound : m ≡ typeAt b at .bound) (g : Number) (is : g ≡ countFrom s set p q m c) where
+  counted : countFrom s set (primitiveElement (typesBy b index) (typeAt b at)) (isSequence (typeAt b at)) (typeAt b at .bound) c ≡ g
+  counted = rw (← primitive, ← sequence, ← bound) (sym is)
+
+  pub list-short : (x : Shortage) → g ≡ number.Short x → Done (listValue (typesBy b index) s set nest (typeAt b at) id c (room t n)) n t t (Short x)
+  unfolding listValue
+  list-short x e = is-short (after-none _ _ (counted ∙ e)) (filled-none t n)
+
+  pub list-got : (count : ℕ) (d : Cursor) → g ≡ number.Got count d → (ty : ℕ) → ty ≡ typeAt b at .element → (u : List ℕ) (r : Out)
+      → Done (elementsOf (typesBy b index) s set nest ty id count d (room t n)) n t u r → Done (listValue (typesBy b index) s set nest (typeAt b at) id c (room t n)) n t u r
+  unfolding listValue
+  list-got count d e ty f u r h = is-same (after-got _ _ (counted ∙ e) ∙ ap (λ (x : ℕ). elementsOf (typesBy b index) s set nest x id count d (room t n)) (sym f)) h

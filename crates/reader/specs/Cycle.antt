@@ -1,0 +1,62 @@
+-- What each function of the cycle is held to: its rule over the types that an index finds in a book, where d more values may be opened.
+use Prim.Native.Nat.{ℕ}
+use mathlib.Core.Bool.{Bool}
+use mathlib.Core.List.{List}
+use Rattle.wire.specs.declared.cursor.Cursor.{Cursor}
+use Rattle.wire.specs.declared.settings.Settings.{Settings}
+use Rattle.wire.specs.declared.settings.Version.{Version}
+use Rattle.book.specs.Types.{BookType, Member}
+use Rattle.book.specs.Places.{typesBy}
+use Rattle.table.specs.Outcome.{Outcome}
+use Rattle.choice.specs.declared.discriminator.Discriminator.{Discriminator}
+use Rattle.reader.specs.Value.{Nest, openedFrom, elementsOf, listValue, valueOf}
+use Rattle.reader.specs.Member.{foundOf, mmemberOf, optionalBy, fmemberOf}
+use Rattle.reader.specs.Structure.{fmembersOf, mmembersOf, mstructBy}
+use Rattle.reader.specs.Union.{onDiscriminator, membersBy}
+use Rattle.reader.specs.Nested.{bodyOf, nestedAt}
+
+module _ (book index s : List ℕ) (set : Settings) (d : ℕ) where
+  abbrev pub nest : Nest
+  nest = nestedAt (typesBy book index) s set d
+
+  abbrev pub complexIn : ℕ → ℕ → Cursor → ℕ → Outcome
+  complexIn ty count c room = openedFrom (typesBy book index) s set nest ty count 0 c room
+
+  abbrev pub elementsIn : ℕ → ℕ → ℕ → Cursor → ℕ → Outcome
+  elementsIn = elementsOf (typesBy book index) s set nest
+
+  abbrev pub listIn : BookType → ℕ → Cursor → ℕ → Outcome
+  listIn = listValue (typesBy book index) s set nest
+
+  abbrev pub valueIn : ℕ → ℕ → Cursor → ℕ → Outcome
+  valueIn = valueOf (typesBy book index) s set nest
+
+  abbrev pub foundIn : Member → ℕ → Cursor → ℕ → Outcome
+  foundIn = foundOf (typesBy book index) s set nest
+
+  abbrev pub mmemberIn : Member → Cursor → ℕ → Outcome
+  mmemberIn = mmemberOf (typesBy book index) s set nest
+
+  abbrev pub optionalIn : Member → Cursor → ℕ → Outcome
+  optionalIn = optionalBy (typesBy book index) s set nest (set .version)
+
+  abbrev pub fmemberIn : Member → Cursor → ℕ → Outcome
+  fmemberIn = fmemberOf (typesBy book index) s set nest
+
+  abbrev pub fstructIn : BookType → Cursor → ℕ → Outcome
+  fstructIn t c room = fmembersOf (typesBy book index) s set nest t (t .members) c room
+
+  abbrev pub membersIn : BookType → Cursor → ℕ → Outcome
+  membersIn t c room = mmembersOf (typesBy book index) s set nest (t .members) c room
+
+  abbrev pub mstructIn : Version → BookType → Cursor → ℕ → Outcome
+  mstructIn = mstructBy (typesBy book index) s set nest
+
+  abbrev pub unionIn : Bool → BookType → Cursor → ℕ → Outcome
+  unionIn mutable t c room = membersBy (typesBy book index) s set nest mutable (t .members) c room
+
+  abbrev pub selectedIn : Bool → Member → BookType → Cursor → ℕ → Discriminator → Outcome
+  selectedIn mutable disc t c room v = onDiscriminator (typesBy book index) s set nest mutable disc (t .members) c room v
+
+  abbrev pub bodyIn : BookType → Cursor → ℕ → Outcome
+  bodyIn = bodyOf (typesBy book index) s set nest

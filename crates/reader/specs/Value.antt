@@ -1,0 +1,67 @@
+-- A value by its type: one level, given how the values in it are opened.
+use Prim.Native.Nat.{ℕ, zero, suc, _+_, _-_}
+use mathlib.Core.List.{List, [], _∷_}
+use mathlib.Core.Bool.{Bool}
+use lib.Dec.{eqb}
+use Rattle.ground.specs.Choice.{pick, among}
+use Rattle.wire.specs.declared.cursor.Cursor.{Cursor}
+use Rattle.wire.specs.declared.settings.Settings.{Settings}
+use Rattle.wire.specs.Number.{afterNumber}
+use Rattle.kinds.specs.Kinds.{isPrimitive, unsupportedMember, unsupportedElement, opens, bitmaskStored}
+use Rattle.book.specs.Types.{BookType, bounded, typeNo}
+use Rattle.table.specs.declared.out.Refusal.the-variants.{Unsupported}
+use Rattle.table.specs.Rows.{row}
+use Rattle.table.specs.Outcome.{Outcome, read, short, refused, roomFor, prepend, andThen}
+use Rattle.values.specs.Scalar.{scalarOf}
+use Rattle.values.specs.List.{listOf, blockOf}
+use Rattle.values.specs.Header.{countFrom}
+
+-- how a structure, enum or union is opened: its type's number, its id, the place, and the rows there is room for
+abbrev pub Nest : Type 0
+Nest = ℕ → ℕ → Cursor → ℕ → Outcome
+
+-- "A bitmask is 13, 6, 7 or 8 by bound": it is read as the kind that it is stored as
+unfoldable pub readAs : BookType → ℕ
+readAs t = pick (eqb (t .kind) 19) (bitmaskStored (bounded t) (t .bound)) (t .kind)
+
+unfoldable pub isSequence : BookType → Bool
+isSequence t = eqb (t .kind) 25
+
+-- "Lists of non-primitives (ENUM and BITMASK count so) have a DHEADER in XCDR2; arrays too. CHAR16 counts as primitive."
+unfoldable pub primitiveElement : List BookType → BookType → Bool
+primitiveElement types t = isPrimitive (typeNo types (t .element) .kind)
+
+module _ (types : List BookType) (s : List ℕ) (set : Settings) (nest : Nest) where
+  -- elements that are opened, from number i on, of which some are left: "each element's id is its position"
+  unfoldable pub openedFrom : ℕ → ℕ → ℕ → Cursor → ℕ → Outcome
+  openedFrom ty zero i c room = read c []
+  openedFrom ty (suc left) i c room = andThen (nest ty i c room) (λ d used. openedFrom ty left (i + 1) d (room - used))
+
+  -- "Sequences and arrays: kind 25, a element's stored kind (a structure, enum or union its own kind), b elements"
+  unfoldable pub openedList : ℕ → ℕ → ℕ → Cursor → ℕ → Outcome
+  openedList ty id count c room =
+      roomFor room (prepend (row 25 id (typeNo types ty .kind) count ∷ []) (openedFrom ty count 0 c (room - 1)))
+
+  -- the elements of a list, by their type.
+  -- "11: .. element kinds 0, 15, 18, 20, 24 to 27, even for 0 elements, after any DHEADER and length and before the list's row"
+  unfoldable pub elementsOf : ℕ → ℕ → ℕ → Cursor → ℕ → Outcome
+  elementsOf ty id count c room =
+      pick (unsupportedElement (typeNo types ty .kind)) (refused Unsupported)
+      (pick (opens (typeNo types ty .kind)) (openedList ty id count c room)
+      (pick (among (2 ∷ 13 ∷ []) (typeNo types ty .kind)) (blockOf s set (typeNo types ty .kind) id count c room)
+      (listOf s set (readAs (typeNo types ty)) id count c room)))
+
+  -- a sequence or an array: how many elements, then the elements
+  unfoldable pub listValue : BookType → ℕ → Cursor → ℕ → Outcome
+  listValue t id c room =
+      afterNumber short (countFrom s set (primitiveElement types t) (isSequence t) (t .bound) c)
+      (λ count d. elementsOf (t .element) id count d room)
+
+  -- a value, by its type. "A NONE member stores nothing." "11: member kinds 15, 18, 20, 24, 27"
+  unfoldable pub valueOf : ℕ → ℕ → Cursor → ℕ → Outcome
+  valueOf ty id c room =
+      pick (eqb (typeNo types ty .kind) 0) (read c [])
+      (pick (unsupportedMember (typeNo types ty .kind)) (refused Unsupported)
+      (pick (opens (typeNo types ty .kind)) (nest ty id c room)
+      (pick (among (25 ∷ 26 ∷ []) (typeNo types ty .kind)) (listValue (typeNo types ty) id c room)
+      (scalarOf s set (readAs (typeNo types ty)) id c room))))

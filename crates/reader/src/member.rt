@@ -1,0 +1,168 @@
+// A member: plain, optional, or found by its lookup.
+ghost use mathlib.Core.Path.{_≡_};
+ghost use Rattle.book.specs.Places.{memberAt};
+ghost use Rattle.table.specs.Rows.{room};
+ghost use Rattle.table.specs.Outcome.{Done};
+ghost use Rattle.reader.specs.Cycle.{foundIn, mmemberIn, optionalIn, fmemberIn};
+use crate::types::by_length;
+use crate::types::element_count;
+use crate::value::sequence_elements;
+use crate::value::value;
+use book::index::place;
+use book::member::id;
+use book::member::is_optional;
+use book::member::type_index;
+use book::types::element;
+use lookup::member::Located;
+use lookup::member::locate;
+use table::out::Out;
+use table::out::Refusal;
+use wire::cursor::Cursor;
+use wire::number::Boolean;
+use wire::settings::Settings;
+use wire::settings::Version;
+
+// A member of a Final or Appendable type.
+pub fn fmember(
+    book: &[u8],
+    index: &[u32],
+    s: &[u8],
+    set: Settings,
+    t: &mut [u64],
+    p: usize,
+    c: Cursor,
+    n: usize,
+    depth: usize,
+) -> Out
+    ensures { λ r. ⌜ Done (fmemberIn (now (book .entry)) (now (index .entry)) (now (s .entry)) set depth (memberAt (now (book .entry)) p) c (room (now (t .entry)) n)) n (now (t .entry)) (now (t .exit)) r ⌝ }
+{
+    if is_optional(book, p) {
+        return opt_fmember(book, index, s, set, t, p, c, n, depth);
+    }
+    value(
+        book,
+        index,
+        s,
+        set,
+        t,
+        type_index(book, p),
+        id(book, p) as u64,
+        c,
+        n,
+        depth,
+    )
+}
+
+// Serialization rules 19 and 20: an optional member of a Final or Appendable type. XCDR1 looks it up, XCDR2 asks a boolean.
+pub fn opt_fmember(
+    book: &[u8],
+    index: &[u32],
+    s: &[u8],
+    set: Settings,
+    t: &mut [u64],
+    p: usize,
+    c: Cursor,
+    n: usize,
+    depth: usize,
+) -> Out
+    ensures { λ r. ⌜ Done (optionalIn (now (book .entry)) (now (index .entry)) (now (s .entry)) set depth (memberAt (now (book .entry)) p) c (room (now (t .entry)) n)) n (now (t .entry)) (now (t .exit)) r ⌝ }
+{
+    let version = set.version;
+    match version {
+        Version::Xcdr1 => mmember(book, index, s, set, t, p, c, n, depth),
+        Version::Xcdr2 => match wire::number::read_boolean(s, set, c) {
+            Boolean::Short(x) => Out::Short(x),
+            Boolean::Bad => Out::Refused(Refusal::InvalidData),
+            Boolean::Got(present, d) => {
+                if present {
+                    return value(
+                        book,
+                        index,
+                        s,
+                        set,
+                        t,
+                        type_index(book, p),
+                        id(book, p) as u64,
+                        d,
+                        n,
+                        depth,
+                    );
+                }
+                Out::Read(d, n)
+            }
+        },
+    }
+}
+
+// Serialization rules 22, 24 and 25: a member by its lookup. The place comes back, whatever was read.
+pub fn mmember(
+    book: &[u8],
+    index: &[u32],
+    s: &[u8],
+    set: Settings,
+    t: &mut [u64],
+    p: usize,
+    c: Cursor,
+    n: usize,
+    depth: usize,
+) -> Out
+    ensures { λ r. ⌜ Done (mmemberIn (now (book .entry)) (now (index .entry)) (now (s .entry)) set depth (memberAt (now (book .entry)) p) c (room (now (t .entry)) n)) n (now (t .entry)) (now (t .exit)) r ⌝ }
+{
+    match locate(s, set, id(book, p), c) {
+        Located::Short(x) => Out::Short(x),
+        Located::Absent(back) => Out::Read(back, n),
+        Located::Found(length, d, back) => match found(
+            book,
+            index,
+            s,
+            set,
+            t,
+            p,
+            length,
+            d,
+            n,
+            depth,
+        ) {
+            Out::Read(_, m) => Out::Read(back, m),
+            Out::Short(x) => Out::Short(x.back_to(back)),
+            Out::Refused(k) => Out::Refused(k),
+        },
+    }
+}
+
+// The value of a member that was found. XCDR2 takes a sequence of primitives by the length that was found.
+pub fn found(
+    book: &[u8],
+    index: &[u32],
+    s: &[u8],
+    set: Settings,
+    t: &mut [u64],
+    p: usize,
+    length: u64,
+    c: Cursor,
+    n: usize,
+    depth: usize,
+) -> Out
+    ensures { λ r. ⌜ Done (foundIn (now (book .entry)) (now (index .entry)) (now (s .entry)) set depth (memberAt (now (book .entry)) p) length c (room (now (t .entry)) n)) n (now (t .entry)) (now (t .exit)) r ⌝ }
+{
+    let version = set.version;
+    let ty = type_index(book, p);
+    let q = place(book, index, ty);
+    if by_length(book, index, version, q) {
+        let count = element_count(book, index, q, length);
+        return sequence_elements(
+            book,
+            index,
+            s,
+            set,
+            t,
+            element(book, q),
+            id(book, p) as u64,
+            count,
+            c,
+            n,
+            depth,
+        );
+    }
+    value(book, index, s, set, t, ty, id(book, p) as u64, c, n, depth)
+}

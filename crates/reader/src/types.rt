@@ -1,0 +1,97 @@
+// What the cycle asks of a type or a member in the book.
+ghost use mathlib.Core.Path.{_≡_};
+ghost use Rattle.book.specs.Places.{memberAt, typeAt, typesBy};
+ghost use Rattle.reader.specs.Value.{isSequence, primitiveElement, readAs};
+ghost use Rattle.reader.specs.Member.{byLength, elementCount};
+ghost use Rattle.reader.specs.Structure.{absorbs};
+ghost use Rattle.reader.specs.Nested.{isMutable, contentsAt};
+use book::index::place;
+use book::types::bound;
+use book::types::element;
+use book::types::extensibility;
+use book::types::is_bounded;
+use values::header::after_dheader;
+use wire::cursor::Cursor;
+use wire::cursor::Place;
+use wire::settings::Settings;
+use wire::settings::Version;
+
+pub fn kind_at(book: &[u8], at: usize) -> u8
+    ensures { λ r. ⌜ r ≡ typeAt (now (book .entry)) at .kind ⌝ }
+{
+    book::types::kind(book, at) as u8
+}
+
+pub fn base_at(book: &[u8], at: usize) -> u8
+    ensures { λ r. ⌜ r ≡ typeAt (now (book .entry)) at .base ⌝ }
+{
+    book::types::base(book, at) as u8
+}
+
+pub fn is_sequence(book: &[u8], at: usize) -> bool
+    ensures { λ r. ⌜ r ≡ isSequence (typeAt (now (book .entry)) at) ⌝ }
+{
+    kind_at(book, at) == 25
+}
+
+pub fn is_mutable(book: &[u8], at: usize) -> bool
+    ensures { λ r. ⌜ r ≡ isMutable (typeAt (now (book .entry)) at) ⌝ }
+{
+    extensibility(book, at) == 2
+}
+
+// The kind that a value is read as: a bitmask's by its bound.
+pub fn read_as(book: &[u8], at: usize) -> u8
+    ensures { λ r. ⌜ r ≡ readAs (typeAt (now (book .entry)) at) ⌝ }
+{
+    let kind = kind_at(book, at);
+    if kind == 19 {
+        return kinds::bitmask_stored(is_bounded(book, at), bound(book, at));
+    }
+    kind
+}
+
+// Whether the elements of the list at a place are primitives. The Rust's is_element_type_kind_primitive.
+pub fn primitive_element(book: &[u8], index: &[u32], at: usize) -> bool
+    ensures { λ r. ⌜ r ≡ primitiveElement (typesBy (now (book .entry)) (now (index .entry))) (typeAt (now (book .entry)) at) ⌝ }
+{
+    let q = place(book, index, element(book, at));
+    kinds::is_primitive(kind_at(book, q))
+}
+
+// Whether a member of this type, once found, is taken by the length of its header.
+pub fn by_length(book: &[u8], index: &[u32], version: Version, at: usize) -> bool
+    ensures { λ r. ⌜ r ≡ byLength version (typesBy (now (book .entry)) (now (index .entry))) (typeAt (now (book .entry)) at) ⌝ }
+{
+    match version {
+        Version::Xcdr1 => false,
+        Version::Xcdr2 => is_sequence(book, at) & primitive_element(book, index, at),
+    }
+}
+
+// How many elements that length holds.
+pub fn element_count(book: &[u8], index: &[u32], at: usize, length: u64) -> u64
+    ensures { λ r. ⌜ r ≡ elementCount (typesBy (now (book .entry)) (now (index .entry))) (typeAt (now (book .entry)) at) length ⌝ }
+{
+    let q = place(book, index, element(book, at));
+    let entry = kinds::of_kind(kind_at(book, q));
+    let size = entry.element;
+    length / (size as u64)
+}
+
+// Whether too few bytes for the member at p end the structure at `at` as read.
+pub fn absorbs(book: &[u8], at: usize, p: usize) -> bool
+    ensures { λ r. ⌜ r ≡ absorbs (typeAt (now (book .entry)) at) (memberAt (now (book .entry)) p) ⌝ }
+{
+    (extensibility(book, at) == 1) | (book::member::construct(book, p) == 0)
+}
+
+// Where the contents of a Final or Appendable value begin.
+pub fn contents_at(book: &[u8], s: &[u8], set: Settings, at: usize, c: Cursor) -> Place
+    ensures { λ r. ⌜ r ≡ contentsAt (now (s .entry)) set (typeAt (now (book .entry)) at) c ⌝ }
+{
+    if extensibility(book, at) == 1 {
+        return after_dheader(s, set, c);
+    }
+    Place::At(c)
+}

@@ -1,0 +1,169 @@
+// A value by its type, and lists of values.
+ghost use mathlib.Core.Path.{_≡_};
+ghost use Rattle.book.specs.Places.{typeAt};
+ghost use Rattle.table.specs.Rows.{room};
+ghost use Rattle.table.specs.Outcome.{Done};
+ghost use Rattle.reader.specs.Cycle.{complexIn, elementsIn, listIn, valueIn};
+use crate::as_nested;
+use crate::types::is_sequence;
+use crate::types::kind_at;
+use crate::types::primitive_element;
+use crate::types::read_as;
+use book::index::place;
+use book::types::bound;
+use book::types::element;
+use table::out::Out;
+use table::out::Refusal;
+use table::rows::Row;
+use table::rows::is_full;
+use table::rows::put_row;
+use values::header::count_from;
+use values::list::block;
+use values::list::list;
+use values::scalar::scalar;
+use wire::cursor::Cursor;
+use wire::number::Number;
+use wire::settings::Settings;
+
+// A value, by its type's kind.
+pub fn value(
+    book: &[u8],
+    index: &[u32],
+    s: &[u8],
+    set: Settings,
+    t: &mut [u64],
+    ty: usize,
+    id: u64,
+    c: Cursor,
+    n: usize,
+    depth: usize,
+) -> Out
+    ensures { λ r. ⌜ Done (valueIn (now (book .entry)) (now (index .entry)) (now (s .entry)) set depth ty id c (room (now (t .entry)) n)) n (now (t .entry)) (now (t .exit)) r ⌝ }
+{
+    let p = place(book, index, ty);
+    let kind = kind_at(book, p);
+    if kind == 0 {
+        return Out::Read(c, n);
+    }
+    if kinds::unsupported_member(kind) {
+        return Out::Refused(Refusal::Unsupported);
+    }
+    if kinds::opens(kind) {
+        return as_nested(book, index, s, set, t, ty, id, c, n, depth);
+    }
+    if (kind == 25) | (kind == 26) {
+        return list_type(book, index, s, set, t, p, id, c, n, depth);
+    }
+    scalar(s, set, t, read_as(book, p), id, c, n)
+}
+
+// Serialization rules 8 to 13: a sequence or an array, whose type is at `at`.
+pub fn list_type(
+    book: &[u8],
+    index: &[u32],
+    s: &[u8],
+    set: Settings,
+    t: &mut [u64],
+    at: usize,
+    id: u64,
+    c: Cursor,
+    n: usize,
+    depth: usize,
+) -> Out
+    ensures { λ r. ⌜ Done (listIn (now (book .entry)) (now (index .entry)) (now (s .entry)) set depth (typeAt (now (book .entry)) at) id c (room (now (t .entry)) n)) n (now (t .entry)) (now (t .exit)) r ⌝ }
+{
+    let primitive = primitive_element(book, index, at);
+    let sequence = is_sequence(book, at);
+    match count_from(s, set, primitive, sequence, bound(book, at) as u64, c) {
+        Number::Short(x) => Out::Short(x),
+        Number::Got(count, d) => sequence_elements(
+            book,
+            index,
+            s,
+            set,
+            t,
+            element(book, at),
+            id,
+            count,
+            d,
+            n,
+            depth,
+        ),
+    }
+}
+
+// The elements of a list, by their type.
+pub fn sequence_elements(
+    book: &[u8],
+    index: &[u32],
+    s: &[u8],
+    set: Settings,
+    t: &mut [u64],
+    ty: usize,
+    id: u64,
+    count: u64,
+    c: Cursor,
+    n: usize,
+    depth: usize,
+) -> Out
+    ensures { λ r. ⌜ Done (elementsIn (now (book .entry)) (now (index .entry)) (now (s .entry)) set depth ty id count c (room (now (t .entry)) n)) n (now (t .entry)) (now (t .exit)) r ⌝ }
+{
+    let p = place(book, index, ty);
+    let kind = kind_at(book, p);
+    if kinds::unsupported_element(kind) {
+        return Out::Refused(Refusal::Unsupported);
+    }
+    if kinds::opens(kind) {
+        if is_full(t, n) {
+            return Out::Refused(Refusal::NoRoom);
+        }
+        let row = Row {
+            kind: 25,
+            id,
+            a: kind as u64,
+            b: count,
+        };
+        put_row(t, n, row);
+        return complex(book, index, s, set, t, ty, count, c, n + 1, depth);
+    }
+    if (kind == 2) | (kind == 13) {
+        return block(s, set, t, kind, id, count, c, n);
+    }
+    list(s, set, t, read_as(book, p), id, count, c, n)
+}
+
+// Elements that are opened, one after the other.
+pub fn complex(
+    book: &[u8],
+    index: &[u32],
+    s: &[u8],
+    set: Settings,
+    t: &mut [u64],
+    ty: usize,
+    count: u64,
+    c: Cursor,
+    n: usize,
+    depth: usize,
+) -> Out
+    ensures { λ r. ⌜ Done (complexIn (now (book .entry)) (now (index .entry)) (now (s .entry)) set depth ty count c (room (now (t .entry)) n)) n (now (t .entry)) (now (t .exit)) r ⌝ }
+{
+    let mut i: u64 = 0;
+    let mut d = c;
+    let mut m = n;
+    while i < count {
+        match as_nested(book, index, s, set, t, ty, i, d, m, depth) {
+            Out::Read(e, k) => {
+                d = e;
+                m = k;
+            }
+            Out::Short(x) => {
+                return Out::Short(x);
+            }
+            Out::Refused(k) => {
+                return Out::Refused(k);
+            }
+        }
+        i += 1;
+    }
+    Out::Read(d, m)
+}

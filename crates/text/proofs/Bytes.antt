@@ -1,0 +1,65 @@
+-- Laws of the UTF-8 check: one for each way that a byte is taken, and the loop's turn and end. Assumes nothing.
+use Prim.Native.Nat.{ℕ, zero, suc, _+_, _-_, _<_, _≤_}
+use mathlib.Core.Path.{_≡_, refl, ap}
+use mathlib.Core.Bool.{false}
+use mathlib.Core.List.{List, [], _∷_}
+use native.Mathlib.Omega.{arith}
+use native.Mathlib.Numerals.{add-one}
+use lib.Dec.{eqb, eqb·suc-zero}
+use lib.ListN.{length, getD, drop, drop-of-length-le}
+use lib.Seq.{drop-cons}
+use Rattle.ground.specs.Choice.{Range, _‥_}
+use Rattle.ground.proofs.Tests.{inside, below, above}
+use Rattle.text.specs.Unicode.{follow, table37, restGood}
+use Rattle.text.specs.Step.{wantOf, tails, wantsOf, wants, followOf, after}
+use Rattle.text.specs.declared.utf8.Want.{Want}
+use Rattle.text.specs.declared.utf8.Step.{Step}
+use Rattle.text.specs.declared.utf8.Step.the-variants.{Next, Bad}
+
+tails-are : (n : ℕ) → wantsOf n (0x80 ‥ 0xBF) ≡ tails n
+unfolding wantsOf tails
+tails-are zero = refl
+tails-are (suc n) = refl
+
+-- a first byte
+pub begun : (r : Step) (x n : ℕ) (g : Range) (xs : List ℕ) → n ≡ 0 → followOf r ≡ follow table37 x → after r xs ≡ restGood table37 (x ∷ xs) (wantsOf n g)
+unfolding restGood wantsOf
+begun Bad x n g xs z e = rw (z, ← e)
+begun (Next w) x n g xs z e = rw (z, ← e)
+
+-- a byte of a sequence
+module _ (x lo hi : ℕ) (xs : List ℕ) where
+  pub under : (n : ℕ) → (n ≡ 0 → ⊥) → x < lo → false ≡ restGood table37 (x ∷ xs) (wantsOf n (lo ‥ hi))
+  unfolding restGood wantsOf
+  under zero some h = absurd (some refl)
+  under (suc n) some h = rw (below lo hi x h)
+
+  pub over : (n : ℕ) → (n ≡ 0 → ⊥) → hi < x → false ≡ restGood table37 (x ∷ xs) (wantsOf n (lo ‥ hi))
+  unfolding restGood wantsOf
+  over zero some h = absurd (some refl)
+  over (suc n) some h = rw (above lo hi x h)
+
+  pub fits : (n : ℕ) (r : Step) → (n ≡ 0 → ⊥) → lo ≤ x → x ≤ hi → r ≡ Next (wantOf (n - 1) 0x80 0xBF) → after r xs ≡ restGood table37 (x ∷ xs) (wantsOf n (lo ‥ hi))
+  unfolding restGood wantsOf
+  fits zero r some h k f = absurd (some refl)
+  fits (suc n) r some h k f =
+      let e : suc n - 1 ≡ n = omega arith in
+      rw (f, inside lo hi x h k, e) (ap (λ (rs : List Range). restGood table37 xs rs) (tails-are n))
+
+-- one turn of the loop over the bytes
+module _ (s : List ℕ) (i : ℕ) (want : Want) (r : Step) (h : i < length s)
+    (f : (xs : List ℕ) → after r xs ≡ restGood table37 (getD s i 0 ∷ xs) (wants want)) where
+  pub turn-next : (next : Want) → r ≡ Next next → restGood table37 (drop (i + 1) s) (wants next) ≡ restGood table37 (drop i s) (wants want)
+  turn-next next e = rw (add-one i, drop-cons s i 0 h) (rw e at (f (drop (suc i) s)))
+
+  pub turn-bad : r ≡ Bad → false ≡ restGood table37 (drop i s) (wants want)
+  turn-bad e = rw (drop-cons s i 0 h) (rw e at (f (drop (suc i) s)))
+
+-- at the end nothing may be wanted
+ended : (n : ℕ) (g : Range) → eqb n 0 ≡ restGood table37 [] (wantsOf n g)
+unfolding restGood wantsOf
+ended zero g = refl
+ended (suc n) g = eqb·suc-zero n
+
+pub at-end : (s : List ℕ) (i n : ℕ) (g : Range) → length s ≤ i → eqb n 0 ≡ restGood table37 (drop i s) (wantsOf n g)
+at-end s i n g h = rw (drop-of-length-le s h) (ended n g)

@@ -1,0 +1,71 @@
+-- `text::utf8::is_utf8` meets its contract: what is left of the bytes ends well, with what is still wanted, exactly when all of them do. Assumes nothing.
+use Prim.Native.Nat.{_≤_, _-_}
+use mathlib.Core.Path.{_≡_, refl, _∙_}
+use mathlib.Core.List.{[]}
+use lib.ListN.{length, drop}
+use borrow.Author.Needs.{needs}
+use Rattle.text.specs.Unicode.{restGood, table37}
+use Rattle.text.specs.Step.{wants, wantsOf}
+use Rattle.text.proofs.Bytes.{turn-next, turn-bad, at-end}
+use Rattle.text.proofs.utf8.is_utf8.Statement.{statement}
+use Rattle.text.proofs.utf8.is_utf8.Tie as tie
+
+abbrev Inv-loop : tie.InvT-loop
+Inv-loop s want₀ i₀ want i = (i ≤ length s) × (restGood table37 (drop i s) (wants want) ≡ restGood table37 s [])
+
+abbrev μ-loop : tie.MeasureT-loop
+μ-loop s want₀ i₀ want i = length s - i
+
+loop-holds : tie.Need-loop-holds Inv-loop μ-loop
+unfolding wantsOf
+loop-holds c = (search needs, refl)
+
+shared-slice-read-take : tie.Need-shared-slice-read-take Inv-loop μ-loop
+shared-slice-read-take c = search needs
+
+take-requires : tie.Need-take-requires Inv-loop μ-loop
+take-requires c κs = search needs
+
+enum-known-next : tie.Need-enum-known-next Inv-loop μ-loop
+enum-known-next c = search needs
+
+enum-told : tie.Need-enum-told Inv-loop μ-loop
+enum-told c = search needs
+
+returns : tie.Need-returns Inv-loop μ-loop
+returns c = let t = c .before .before .take in
+    let l = c .before .before .before .before in
+    turn-bad _ _ (l .before .loop .want) (t .result) (l .loop-test .taken) (t .ensures) (c .enum-told .given .1) ∙ l .before .loop .inv .1
+
+add-i : tie.Need-add-i Inv-loop μ-loop
+add-i c = search needs
+
+loop-less : tie.Need-loop-less Inv-loop μ-loop
+loop-less c = search needs
+
+loop-again : tie.Need-loop-again Inv-loop μ-loop
+loop-again c = let t = c .before .before .before .take in
+    let l = c .before .before .before .before .before in (
+      search needs,
+      turn-next _ _ (l .before .loop .want) (t .result) (l .loop-test .taken) (t .ensures) _ (c .before .next .given .1) ∙ l .before .loop .inv .1,
+    )
+
+returns-2 : tie.Need-returns-2 Inv-loop μ-loop
+returns-2 c = at-end _ _ _ _ (c .before .loop-test .left) ∙ c .before .before .loop .inv .1
+
+pub is-utf8-spec : {M : Type 1} → statement M
+is-utf8-spec =
+    tie.close
+    (tie.spec
+    Inv-loop
+    μ-loop
+    loop-holds
+    shared-slice-read-take
+    take-requires
+    enum-known-next
+    enum-told
+    returns
+    add-i
+    loop-less
+    loop-again
+    returns-2)

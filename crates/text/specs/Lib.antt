@@ -1,0 +1,3 @@
+pub mod Unicode
+pub mod Step
+pub mod Text

@@ -1,0 +1,80 @@
+// Whether bytes are well-formed UTF-8, by the Unicode standard's Table 3-7.
+ghost use mathlib.Core.Path.{_≡_};
+ghost use mathlib.Core.List.{List, _∷_};
+ghost use Prim.Native.Nat.{ℕ};
+ghost use Rattle.text.specs.Unicode.{table37, follow, restGood, utf8};
+ghost use Rattle.text.specs.Step.{wantOf, wants, followOf, after};
+
+// What has to come: `left` bytes, of which the next is from `lo` to `hi` and any other from 80 to BF.
+pub struct Want {
+    pub left: u8,
+    pub lo: u8,
+    pub hi: u8,
+}
+
+pub enum Step {
+    Next(Want),
+    Bad,
+}
+
+fn then(left: u8, lo: u8, hi: u8) -> Step
+    ensures { λ r. ⌜ r ≡ Step.Next (wantOf left lo hi) ⌝ }
+{
+    Step::Next(Want { left, lo, hi })
+}
+
+// What has to follow a first byte: a line for each line of the table.
+fn first(x: u8) -> Step
+    ensures { λ r. ⌜ followOf r ≡ follow table37 x ⌝ }
+{
+    match x {
+        0x00..=0x7F => then(0, 0, 0),
+        0xC2..=0xDF => then(1, 0x80, 0xBF),
+        0xE0 => then(2, 0xA0, 0xBF),
+        0xE1..=0xEC => then(2, 0x80, 0xBF),
+        0xED => then(2, 0x80, 0x9F),
+        0xEE..=0xEF => then(2, 0x80, 0xBF),
+        0xF0 => then(3, 0x90, 0xBF),
+        0xF1..=0xF3 => then(3, 0x80, 0xBF),
+        0xF4 => then(3, 0x80, 0x8F),
+        _ => Step::Bad,
+    }
+}
+
+// One byte more.
+fn take(want: Want, x: u8) -> Step
+    ensures { λ r. ⌜ ((xs : List ℕ) → after r xs ≡ restGood table37 (x ∷ xs) (wants want)) ⌝ }
+{
+    let left = want.left;
+    let lo = want.lo;
+    let hi = want.hi;
+    if left == 0 {
+        return first(x);
+    }
+    if x < lo {
+        return Step::Bad;
+    }
+    if hi < x {
+        return Step::Bad;
+    }
+    then(left - 1, 0x80, 0xBF)
+}
+
+pub fn is_utf8(s: &[u8]) -> bool
+    ensures { λ r. ⌜ r ≡ utf8 (now (s .entry)) ⌝ }
+{
+    let mut want = Want {
+        left: 0,
+        lo: 0,
+        hi: 0,
+    };
+    let mut i = 0;
+    while i < s.len() {
+        let Step::Next(next) = take(want, s[i]) else {
+            return false;
+        };
+        want = next;
+        i += 1;
+    }
+    want.left == 0
+}

@@ -1,0 +1,3 @@
+pub mod Scalars
+pub mod Lists
+pub mod Headers

@@ -1,0 +1,83 @@
+-- Laws of lists of values that open nothing: the loop's start, turn and ends, and the list around it. Assumes nothing.
+use Prim.Native.Nat.{ℕ, zero, suc, _+_, _-_, _≤_, _<_}
+use mathlib.Core.Path.{_≡_, refl, sym, ap, _∙_}
+use mathlib.Core.Bool.{Bool, true, false}
+use mathlib.Core.List.{List, [], _∷_}
+use native.Mathlib.Nat.{sub-zero}
+use native.Mathlib.Omega.{arith}
+use lib.ListN.{length}
+use Rattle.wire.specs.declared.cursor.Cursor.{Cursor}
+use Rattle.wire.specs.declared.cursor.Shortage.{Shortage}
+use Rattle.wire.specs.declared.cursor.Place.{Place}
+use Rattle.wire.specs.declared.cursor.Place.the-variants as place
+use Rattle.wire.specs.declared.settings.Settings.{Settings}
+use Rattle.wire.specs.Place.{seekTo}
+use Rattle.kinds.specs.declared.Entry.{Entry}
+use Rattle.kinds.specs.Kinds.{storedOf, entryOf}
+use Rattle.table.specs.declared.out.Refusal.{Refusal}
+use Rattle.table.specs.declared.out.Refusal.the-variants.{NoRoom}
+use Rattle.table.specs.declared.out.Out.{Out}
+use Rattle.table.specs.declared.out.Out.the-variants.{Read, Short, Refused}
+use Rattle.table.specs.Rows.{row, room, noRoom, putRow, Filled}
+use Rattle.table.specs.Outcome.{Outcome, read, short, refused, roomFor, prepend, andThen, Done}
+use Rattle.table.proofs.Filling.{filled-none, filled-one, full-fits, room-used}
+use Rattle.table.proofs.Outcomes.{is-short, is-refused, is-same, is-after, no-room, some-room, was-read, was-short, was-refused, then-read, then-short, then-refused, Sofar, sofar-start, sofar-more, sofar-read, sofar-short, sofar-refused}
+use Rattle.values.specs.Scalar.{scalarOf}
+use Rattle.values.specs.List.{elementsFrom, listOf, onBlock, blockOf}
+
+module _ (s : List ℕ) (set : Settings) (kind count : ℕ) where
+  more : (i : ℕ) (c : Cursor) (k : ℕ) → i < count → elementsFrom s set kind (count - i) i c k ≡ andThen (scalarOf s set kind i c k) (λ d used. elementsFrom s set kind (count - (i + 1)) (i + 1) d (k - used))
+  unfolding elementsFrom
+  more i c k h = let e : count - i ≡ suc (count - (i + 1)) = omega arith in rw e
+
+  none : (i : ℕ) (c : Cursor) (k : ℕ) → count ≤ i → elementsFrom s set kind (count - i) i c k ≡ read c []
+  unfolding elementsFrom
+  none i c k h = let e : count - i ≡ 0 = omega arith in rw e
+
+  -- the elements so far, with what is left of the list
+  abbrev pub ElementsSofar : Outcome → ℕ → List ℕ → List ℕ → ℕ → Cursor → ℕ → Type 0
+  ElementsSofar whole n t u i c m = Sofar whole (elementsFrom s set kind (count - i) i c (room u m)) n t u m
+
+  pub elements-start : (c : Cursor) (t : List ℕ) (n : ℕ) → ElementsSofar (elementsFrom s set kind count 0 c (room t n)) n t t 0 c n
+  elements-start c t n = sofar-start (rw sub-zero)
+
+  module _ (whole : Outcome) (n : ℕ) (t u : List ℕ) (i : ℕ) (c : Cursor) (m : ℕ) (inv : ElementsSofar whole n t u i c m) where
+    module _ (l : i < count) (v : List ℕ) (r : Out) (h : Done (scalarOf s set kind i c (room u m)) m u v r) where
+      pub elements-turn : (d : Cursor) (k : ℕ) → r ≡ Read d k → ElementsSofar whole n t v (i + 1) d k
+      elements-turn d k q =
+          let w = was-read h q in
+          let z : room u m - length (w .new) ≡ room v k = room-used u v m (length (w .new)) (w .filled .long) ∙ ap (room v) (sym (w .count)) in
+          sofar-more inv (more i c (room u m) l ∙ then-read _ (w .is) ∙ ap (λ (x : ℕ). prepend (w .new) (elementsFrom s set kind (count - (i + 1)) (i + 1) d x)) z) (w .count) (w .filled)
+
+      pub elements-short : (x : Shortage) → r ≡ Short x → Done whole n t v (Short x)
+      elements-short x q = let w = was-short h q in sofar-short inv (more i c (room u m) l ∙ then-short _ (w .is)) (w .filled)
+
+      pub elements-refused : (k : Refusal) → r ≡ Refused k → Done whole n t v (Refused k)
+      elements-refused k q = let w = was-refused h q in sofar-refused inv (more i c (room u m) l ∙ then-refused _ (w .is)) (w .filled)
+
+    pub elements-end : count ≤ i → Done whole n t u (Read c m)
+    elements-end h = sofar-read inv (none i c (room u m) h) (filled-none u m)
+
+  -- the list's row, and then its elements
+  module _ (id : ℕ) (c : Cursor) (t : List ℕ) (n : ℕ) (f : Bool) (is : f ≡ noRoom t n) where
+    pub list-full : f ≡ true → Done (listOf s set kind id count c (room t n)) n t t (Refused NoRoom)
+    unfolding listOf
+    list-full e = is-refused (no-room t n _ f is e) (filled-none t n)
+
+    pub list-rows : f ≡ false → (x : Entry) → x ≡ entryOf kind → (u : List ℕ) → u ≡ putRow t n (row 25 id (x .stored) count) → (v : List ℕ) (r : Out)
+        → Done (elementsFrom s set kind count 0 c (room u (n + 1))) (n + 1) u v r → Done (listOf s set kind id count c (room t n)) n t v r
+    unfolding listOf
+    list-rows e x k u p v r h =
+        let q : u ≡ putRow t n (row 25 id (storedOf kind) count) = rw k at p in
+        let w : Filled t u n (row 25 id (storedOf kind) count ∷ []) = rw q (filled-one t n (row 25 id (storedOf kind) count) (full-fits t n f is e)) in
+        is-same (some-room t n _ f is e ∙ ap (λ (y : ℕ). prepend (row 25 id (storedOf kind) count ∷ []) (elementsFrom s set kind count 0 c y)) (room-used t u n 1 (w .long))) (is-after w h)
+
+  -- a block of bytes before it
+  module _ (id : ℕ) (c : Cursor) (t : List ℕ) (n : ℕ) (p : Place) (is : p ≡ seekTo s c count) where
+    pub block-short : (x : Shortage) → p ≡ place.Short x → Done (blockOf s set kind id count c (room t n)) n t t (Short x)
+    unfolding blockOf onBlock
+    block-short x e = is-short (rw (sym is ∙ e)) (filled-none t n)
+
+    pub block-at : (d : Cursor) → p ≡ place.At d → (u : List ℕ) (r : Out) → Done (listOf s set kind id count c (room t n)) n t u r → Done (blockOf s set kind id count c (room t n)) n t u r
+    unfolding blockOf onBlock
+    block-at d e u r h = is-same (rw (sym is ∙ e)) h

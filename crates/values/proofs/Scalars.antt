@@ -1,0 +1,193 @@
+-- Laws of a value that opens nothing: one for each way that it goes. Assumes nothing.
+use Prim.Native.Nat.{ℕ, _+_, _*_, _≤_, _<_, _^_}
+use mathlib.Core.Path.{_≡_, refl, sym, ap, _∙_}
+use mathlib.Core.Bool.{Bool, true, false, _||_, or-assoc, or-false}
+use mathlib.Core.List.{List, [], _∷_}
+use native.Mathlib.Omega.{arith}
+use mir.Syntax.{w64}
+use mir.Val.{Fits}
+use lib.ListN.{length}
+use lib.Dec.{eqb}
+use borrow.Author.Tests.{ne-eqb}
+use Rattle.ground.specs.Choice.{pick, among}
+use Rattle.wire.specs.declared.cursor.Cursor.{Cursor}
+use Rattle.wire.specs.declared.cursor.Shortage.{Shortage}
+use Rattle.wire.specs.declared.settings.Settings.{Settings}
+use Rattle.wire.specs.declared.number.Number.{Number}
+use Rattle.wire.specs.declared.number.Number.the-variants as number
+use Rattle.wire.specs.declared.number.Float128.{Float128}
+use Rattle.wire.specs.declared.number.Float128.the-variants as float128
+use Rattle.wire.specs.declared.number.Boolean.{Boolean}
+use Rattle.wire.specs.declared.number.Boolean.the-variants as boolean
+use Rattle.wire.specs.Number.{readNumber, readFloat128, readBoolean, Small, ReadIs}
+use Rattle.wire.specs.Signed.{extended}
+use Rattle.kinds.specs.declared.Entry.{Entry}
+use Rattle.kinds.specs.Kinds.{alignOf, storedOf, entryOf, isPrimitive, isSigned}
+use Rattle.kinds.proofs.Table.{primitive-align}
+use Rattle.text.specs.declared.string.Text.{Text}
+use Rattle.text.specs.declared.string.Text.the-variants as text
+use Rattle.text.specs.Text.{stringType, wstringType}
+use Rattle.table.specs.declared.rows.Row.{Row}
+use Rattle.table.specs.declared.out.Refusal.the-variants.{InvalidData, Unsupported, NoRoom}
+use Rattle.table.specs.declared.out.Out.{Out}
+use Rattle.table.specs.declared.out.Out.the-variants.{Read, Short, Refused}
+use Rattle.table.specs.Rows.{row, width, capacity, room, noRoom, putRow, Filled}
+use Rattle.table.specs.Outcome.{Outcome, read, short, refused, roomFor, Done}
+use Rattle.table.proofs.Filling.{filled-none, filled-one, full-fits}
+use Rattle.table.proofs.Outcomes.{is-read, is-short, is-refused, is-same, no-room, some-room}
+use Rattle.values.specs.Scalar.{rowed, boolWord, onBoolean, onFloat128, wordOf, onNumber, onText, scalarOf, enumOf}
+
+-- a row, where it has a place
+module _ (t : List ℕ) (n : ℕ) (f : Bool) (is : f ≡ noRoom t n) where
+  pub row-fits : f ≡ false → width * n + width ≤ length t
+  row-fits e = full-fits t n f is e
+
+  pub row-next : f ≡ false → length t < 2 ^ 64 → Fits w64 (n + 1)
+  row-next e h = omega (arith, full-fits t n f is e)
+
+  module _ (c : Cursor) (r : Row) where
+    pub row-full : f ≡ true → Done (rowed (room t n) c r) n t t (Refused NoRoom)
+    unfolding rowed
+    row-full e = is-refused (no-room t n _ f is e) (filled-none t n)
+
+    pub row-given : f ≡ false → (u : List ℕ) → u ≡ putRow t n r → Done (rowed (room t n) c r) n t u (Read c (n + 1))
+    unfolding rowed
+    row-given e u p = is-read {rs = r ∷ []} (some-room t n _ f is e) refl (rw p (filled-one t n r (full-fits t n f is e)))
+
+pub word-one : (v : Bool) → v ≡ true → 1 ≡ boolWord v
+unfolding boolWord
+word-one v e = rw e
+
+pub word-none : (v : Bool) → v ≡ false → 0 ≡ boolWord v
+unfolding boolWord
+word-none v e = rw e
+
+module _ (s : List ℕ) (set : Settings) (c : Cursor) (id : ℕ) (t : List ℕ) (n : ℕ) where
+  module _ (g : Boolean) (is : g ≡ readBoolean s set c) where
+    pub boolean-row : (v : Bool) (d : Cursor) → g ≡ boolean.Got v d → (w : ℕ) → w ≡ boolWord v → (u : List ℕ) (r : Out) → Done (rowed (room t n) d (row 1 id w 0)) n t u r
+        → Done (onBoolean id (room t n) (readBoolean s set c)) n t u r
+    unfolding onBoolean
+    boolean-row v d e w k u r h = rw (← is, e, ← k) h
+
+    pub boolean-bad : g ≡ boolean.Bad → Done (onBoolean id (room t n) (readBoolean s set c)) n t t (Refused InvalidData)
+    unfolding onBoolean
+    boolean-bad e = is-refused (rw (← is, e)) (filled-none t n)
+
+    pub boolean-short : (x : Shortage) → g ≡ boolean.Short x → Done (onBoolean id (room t n) (readBoolean s set c)) n t t (Short x)
+    unfolding onBoolean
+    boolean-short x e = is-short (rw (← is, e)) (filled-none t n)
+
+  module _ (g : Float128) (is : g ≡ readFloat128 s set c) where
+    pub float128-row : (low high : ℕ) (d : Cursor) → g ≡ float128.Got low high d → (u : List ℕ) (r : Out) → Done (rowed (room t n) d (row 11 id low high)) n t u r
+        → Done (onFloat128 id (room t n) (readFloat128 s set c)) n t u r
+    unfolding onFloat128
+    float128-row low high d e u r h = rw (← is, e) h
+
+    pub float128-short : (x : Shortage) → g ≡ float128.Short x → Done (onFloat128 id (room t n) (readFloat128 s set c)) n t t (Short x)
+    unfolding onFloat128
+    float128-short x e = is-short (rw (← is, e)) (filled-none t n)
+
+-- a text
+module _ (id kind : ℕ) (t : List ℕ) (n : ℕ) (g : Text) where
+  pub text-row : (start size : ℕ) (c : Cursor) → g ≡ text.Got start size c → (u : List ℕ) (r : Out) → Done (rowed (room t n) c (row kind id start size)) n t u r → Done (onText kind id (room t n) g) n t u r
+  unfolding onText
+  text-row start size c e u r h = rw e h
+
+  pub text-bad : g ≡ text.Bad → Done (onText kind id (room t n) g) n t t (Refused InvalidData)
+  unfolding onText
+  text-bad e = is-refused (rw e) (filled-none t n)
+
+  pub text-short : (x : Shortage) → g ≡ text.Short x → Done (onText kind id (room t n) g) n t t (Short x)
+  unfolding onText
+  text-short x e = is-short (rw e) (filled-none t n)
+
+-- a number's width is what its kind's entry says
+module _ (kind : ℕ) (e : Entry) (entry : e ≡ entryOf kind) where
+  pub width-some : 0 < alignOf kind → 0 < e .align
+  width-some h = rw entry h
+
+  pub width-most : alignOf kind ≤ 8 → e .align ≤ 8
+  width-most h = rw entry h
+
+  pub width-below : (v : ℕ) → v < 256 ^ alignOf kind → v < 256 ^ e .align
+  width-below v h = rw entry h
+
+  pub word-signed : (v y : ℕ) (b : Bool) → b ≡ isSigned kind → b ≡ true → y ≡ extended (e .align) v → y ≡ wordOf kind v
+  unfolding wordOf
+  word-signed v y b is h f = rw (← is, h) (rw entry at f)
+
+  pub word-plain : (v : ℕ) (b : Bool) → b ≡ isSigned kind → b ≡ false → v ≡ wordOf kind v
+  unfolding wordOf
+  word-plain v b is h = rw (← is, h)
+
+  module _ (s : List ℕ) (set : Settings) (c : Cursor) (g : Number) (is : ReadIs s set c (e .align) g) where
+    pub number-below : (v : ℕ) (d : Cursor) → g ≡ number.Got v d → v < 256 ^ alignOf kind
+    number-below v d f =
+        let k : v < 256 ^ e .align = rw f at (is .small) in
+        rw entry at k
+
+    module _ (id : ℕ) (t : List ℕ) (n : ℕ) where
+      pub number-row : (v : ℕ) (d : Cursor) → g ≡ number.Got v d → (w : ℕ) → w ≡ wordOf kind v → (u : List ℕ) (r : Out) → Done (rowed (room t n) d (row (e .stored) id w 0)) n t u r
+          → Done (onNumber kind id (room t n) (readNumber s set c (alignOf kind))) n t u r
+      unfolding onNumber
+      number-row v d f w k u r h =
+          let z : readNumber s set c (alignOf kind) ≡ number.Got v d = rw entry at (sym (is .is) ∙ f) in
+          rw (z, ← k) (rw entry at h)
+
+      pub number-short : (x : Shortage) → g ≡ number.Short x → Done (onNumber kind id (room t n) (readNumber s set c (alignOf kind))) n t t (Short x)
+      unfolding onNumber
+      number-short x f =
+          let z : readNumber s set c (alignOf kind) ≡ number.Short x = rw entry at (sym (is .is) ∙ f) in
+          is-short (rw z) (filled-none t n)
+
+-- by kind
+module _ (s : List ℕ) (set : Settings) (kind id : ℕ) (c : Cursor) (t : List ℕ) (n : ℕ) where
+  pub scalar-boolean : kind ≡ 1 → (u : List ℕ) (r : Out) → Done (onBoolean id (room t n) (readBoolean s set c)) n t u r → Done (scalarOf s set kind id c (room t n)) n t u r
+  unfolding scalarOf
+  scalar-boolean e u r h = rw e h
+
+  pub scalar-float128 : kind ≡ 11 → (u : List ℕ) (r : Out) → Done (onFloat128 id (room t n) (readFloat128 s set c)) n t u r → Done (scalarOf s set kind id c (room t n)) n t u r
+  unfolding scalarOf
+  scalar-float128 e u r h = rw e h
+
+  pub scalar-char16 : kind ≡ 15 → Done (scalarOf s set kind id c (room t n)) n t t (Refused Unsupported)
+  unfolding scalarOf
+  scalar-char16 e = is-refused (rw e) (filled-none t n)
+
+  pub scalar-string : kind ≡ 16 → (g : Text) → g ≡ stringType s set c → (u : List ℕ) (r : Out) → Done (onText 16 id (room t n) g) n t u r → Done (scalarOf s set kind id c (room t n)) n t u r
+  unfolding scalarOf
+  scalar-string e g f u r h = rw (e, ← f) h
+
+  pub scalar-wstring : kind ≡ 17 → (g : Text) → g ≡ wstringType s set c → (u : List ℕ) (r : Out) → Done (onText 17 id (room t n) g) n t u r → Done (scalarOf s set kind id c (room t n)) n t u r
+  unfolding scalarOf
+  scalar-wstring e g f u r h = rw (e, ← f) h
+
+  module _ (a : kind ≡ 1 → ⊥) (b : kind ≡ 11 → ⊥) (d : kind ≡ 15 → ⊥) (i : kind ≡ 16 → ⊥) (j : kind ≡ 17 → ⊥) (p : Bool) (is : p ≡ isPrimitive kind) where
+    pub scalar-number : p ≡ true → (u : List ℕ) (r : Out) → Done (onNumber kind id (room t n) (readNumber s set c (alignOf kind))) n t u r → Done (scalarOf s set kind id c (room t n)) n t u r
+    unfolding scalarOf
+    scalar-number e u r h = rw (ne-eqb kind 1 a, ne-eqb kind 11 b, ne-eqb kind 15 d, ne-eqb kind 16 i, ne-eqb kind 17 j, ← is, e) h
+
+    pub scalar-none : p ≡ false → Done (scalarOf s set kind id c (room t n)) n t t (Refused Unsupported)
+    unfolding scalarOf
+    scalar-none e = is-refused (rw (ne-eqb kind 1 a, ne-eqb kind 11 b, ne-eqb kind 15 d, ne-eqb kind 16 i, ne-eqb kind 17 j, ← is, e)) (filled-none t n)
+
+-- what the code's tests say of a number's width
+module _ (kind : ℕ) (p : Bool) (is : p ≡ isPrimitive kind) (yes : p ≡ true) (other : kind ≡ 11 → ⊥) where
+  pub number-some : 0 < alignOf kind
+  number-some = primitive-align kind (sym is ∙ yes) other .0
+
+  pub number-most : alignOf kind ≤ 8
+  number-most = primitive-align kind (sym is ∙ yes) other .1
+
+-- an enum by its base
+module _ (s : List ℕ) (set : Settings) (base : ℕ) (c : Cursor) (t : List ℕ) (n : ℕ) where
+  based : (eqb base 3 || eqb base 4 || eqb base 12) ≡ among (3 ∷ 4 ∷ 12 ∷ []) base
+  based = simp (or-assoc, or-false)
+
+  pub enum-value : (eqb base 3 || eqb base 4 || eqb base 12) ≡ true → (u : List ℕ) (r : Out) → Done (scalarOf s set base 0 c (room t n)) n t u r → Done (enumOf s set base c (room t n)) n t u r
+  unfolding enumOf
+  enum-value e u r h = rw (sym based ∙ e) h
+
+  pub enum-none : (eqb base 3 || eqb base 4 || eqb base 12) ≡ false → Done (enumOf s set base c (room t n)) n t t (Refused Unsupported)
+  unfolding enumOf
+  enum-none e = is-refused (rw (sym based ∙ e)) (filled-none t n)

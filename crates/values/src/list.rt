@@ -1,0 +1,93 @@
+// Lists of values that open nothing.
+ghost use mathlib.Core.Path.{_≡_};
+ghost use Rattle.table.specs.Rows.{room};
+ghost use Rattle.table.specs.Outcome.{Done};
+ghost use Rattle.values.specs.List.{elementsFrom, listOf, blockOf};
+use table::out::Out;
+use table::out::Refusal;
+use table::rows::Row;
+use table::rows::is_full;
+use table::rows::put_row;
+use wire::cursor::Cursor;
+use wire::cursor::Place;
+use wire::settings::Settings;
+
+// The elements, one by one.
+pub fn elements(
+    s: &[u8],
+    set: Settings,
+    t: &mut [u64],
+    kind: u8,
+    count: u64,
+    at: Cursor,
+    n: usize,
+) -> Out
+    ensures { λ r. ⌜ Done (elementsFrom (now (s .entry)) set kind count 0 at (room (now (t .entry)) n)) n (now (t .entry)) (now (t .exit)) r ⌝ }
+{
+    let mut i: u64 = 0;
+    let mut c = at;
+    let mut m = n;
+    while i < count {
+        match crate::scalar::scalar(s, set, t, kind, i, c, m) {
+            Out::Read(d, k) => {
+                c = d;
+                m = k;
+            }
+            Out::Short(x) => {
+                return Out::Short(x);
+            }
+            Out::Refused(k) => {
+                return Out::Refused(k);
+            }
+        }
+        i += 1;
+    }
+    Out::Read(c, m)
+}
+
+// The list's row, then its elements.
+pub fn list(
+    s: &[u8],
+    set: Settings,
+    t: &mut [u64],
+    kind: u8,
+    id: u64,
+    count: u64,
+    at: Cursor,
+    n: usize,
+) -> Out
+    ensures { λ r. ⌜ Done (listOf (now (s .entry)) set kind id count at (room (now (t .entry)) n)) n (now (t .entry)) (now (t .exit)) r ⌝ }
+{
+    if is_full(t, n) {
+        return Out::Refused(Refusal::NoRoom);
+    }
+    let entry = kinds::of_kind(kind);
+    let stored = entry.stored;
+    let row = Row {
+        kind: 25,
+        id,
+        a: stored as u64,
+        b: count,
+    };
+    put_row(t, n, row);
+    elements(s, set, t, kind, count, at, n + 1)
+}
+
+// A list of bytes: they are asked for in one block, before the row.
+pub fn block(
+    s: &[u8],
+    set: Settings,
+    t: &mut [u64],
+    kind: u8,
+    id: u64,
+    count: u64,
+    at: Cursor,
+    n: usize,
+) -> Out
+    ensures { λ r. ⌜ Done (blockOf (now (s .entry)) set kind id count at (room (now (t .entry)) n)) n (now (t .entry)) (now (t .exit)) r ⌝ }
+{
+    match at.seek(s, count as usize) {
+        Place::Short(x) => Out::Short(x),
+        Place::At(_) => list(s, set, t, kind, id, count, at, n),
+    }
+}
