@@ -1,12 +1,10 @@
 -- Laws of the selection: one for each way that it goes. Assumes nothing.
-use Prim.Native.Nat.{ℕ, zero, suc, _<_, _≤_}
+use Prim.Native.Nat.{ℕ, _<_, _≤_}
 use mathlib.Core.Path.{_≡_, refl, sym, ap, _∙_}
 use mathlib.Core.Bool.{Bool, true, false}
 use mathlib.Core.List.{List, [], _∷_}
-use mathlib.Core.Option.{Option, none, some}
-use native.Mathlib.Omega.{arith}
+use mathlib.Core.Option.{Option}
 use lib.ListN.{getD}
-use lib.Dec.{eqb}
 use lib.IntN.{ℤ, pos}
 use mir.Syntax.{w32}
 use mir.Val.{toZ, ofZ, SFits}
@@ -15,8 +13,8 @@ use borrow.Author.Tests.{eq-eqb, ne-eqb}
 use Rattle.book.specs.declared.member.Run.{Run}
 use Rattle.book.specs.declared.labels.Found.{Found}
 use Rattle.book.specs.declared.labels.Found.the-variants.{At, Nothing}
-use Rattle.book.specs.Types.{BookType, Member, default, typeNo}
-use Rattle.book.specs.Places.{memberAt, typeAt, typesBy, listed, later, Started, After, PlaceOf}
+use Rattle.book.specs.Types.{BookType, Member, default}
+use Rattle.book.specs.Places.{memberAt, typeAt, typesBy, listed, Started, After, PlaceOf}
 use Rattle.book.specs.Labels.{orElse, when, firstWith, lastDefault, told}
 use Rattle.book.proofs.Places.{run-more, run-none}
 use Rattle.choice.specs.Select.{firstDefault, firstOf, firstLabel, labelOf, defaultValue, byDefaultValue, selectedOf}

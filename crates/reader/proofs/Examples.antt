@@ -21,7 +21,7 @@ use Rattle.lookup.specs.Xcdr2 as second
 use Rattle.lookup.specs.Member.{locatedV1, locatedV2, lookedUp, locate}
 use Rattle.lookup.specs.Dheader.{endingAt}
 use Rattle.book.specs.Types.{BookType, Member, optional, default, bounded, noIndex, noType, typeNo}
-use Rattle.table.specs.Rows.{row, words}
+use Rattle.table.specs.Rows.{words}
 use Rattle.table.specs.Outcome as outcome
 use Rattle.values.specs.Scalar as scalar
 use Rattle.values.specs.List as list
@@ -84,8 +84,8 @@ examples =
     -- 10, without and with eight zero bytes more: the list's own length is its first two values
     ∷ example (plain 6 ∷ listType 0 ∷ structType 2 (memberOf 1 1 0 1 ∷ []) ∷ []) 2 le2 (0x10 ∷ 0 ∷ 0 ∷ 0 ∷ 1 ∷ 0 ∷ 0 ∷ 0x40 ∷ 8 ∷ 0 ∷ 0 ∷ 0 ∷ 2 ∷ 0 ∷ 0 ∷ 0 ∷ 10 ∷ 0 ∷ 11 ∷ 0 ∷ []) 1 []
     ∷ example (plain 6 ∷ listType 0 ∷ structType 2 (memberOf 1 1 0 1 ∷ []) ∷ []) 2 le2
-        (0x10 ∷ 0 ∷ 0 ∷ 0 ∷ 1 ∷ 0 ∷ 0 ∷ 0x40 ∷ 8 ∷ 0 ∷ 0 ∷ 0 ∷ 2 ∷ 0 ∷ 0 ∷ 0 ∷ 10 ∷ 0 ∷ 11 ∷ 0 ∷ 0 ∷ 0 ∷ 0 ∷ 0 ∷ 0 ∷ 0 ∷ 0 ∷ 0 ∷ []) 0
-        (22 ∷ 0 ∷ 2 ∷ 9 ∷ 25 ∷ 1 ∷ 6 ∷ 8 ∷ 6 ∷ 0 ∷ 2 ∷ 0 ∷ 6 ∷ 1 ∷ 0 ∷ 0 ∷ 6 ∷ 2 ∷ 10 ∷ 0 ∷ 6 ∷ 3 ∷ 11 ∷ 0 ∷ 6 ∷ 4 ∷ 0 ∷ 0 ∷ 6 ∷ 5 ∷ 0 ∷ 0 ∷ 6 ∷ 6 ∷ 0 ∷ 0 ∷ 6 ∷ 7 ∷ 0 ∷ 0 ∷ [])
+    (0x10 ∷ 0 ∷ 0 ∷ 0 ∷ 1 ∷ 0 ∷ 0 ∷ 0x40 ∷ 8 ∷ 0 ∷ 0 ∷ 0 ∷ 2 ∷ 0 ∷ 0 ∷ 0 ∷ 10 ∷ 0 ∷ 11 ∷ 0 ∷ 0 ∷ 0 ∷ 0 ∷ 0 ∷ 0 ∷ 0 ∷ 0 ∷ 0 ∷ []) 0
+    (22 ∷ 0 ∷ 2 ∷ 9 ∷ 25 ∷ 1 ∷ 6 ∷ 8 ∷ 6 ∷ 0 ∷ 2 ∷ 0 ∷ 6 ∷ 1 ∷ 0 ∷ 0 ∷ 6 ∷ 2 ∷ 10 ∷ 0 ∷ 6 ∷ 3 ∷ 11 ∷ 0 ∷ 6 ∷ 4 ∷ 0 ∷ 0 ∷ 6 ∷ 5 ∷ 0 ∷ 0 ∷ 6 ∷ 6 ∷ 0 ∷ 0 ∷ 6 ∷ 7 ∷ 0 ∷ 0 ∷ [])
     -- 11: after an optional member the next starts at its header
     ∷ example (plain 6 ∷ structType 0 (memberOf 1 0 1 1 ∷ memberOf 2 0 0 1 ∷ []) ∷ []) 1 le1 (1 ∷ 0 ∷ 2 ∷ 0 ∷ 0x34 ∷ 0x12 ∷ 0 ∷ 0 ∷ []) 0 (22 ∷ 0 ∷ 1 ∷ 2 ∷ 6 ∷ 1 ∷ 4660 ∷ 0 ∷ 6 ∷ 2 ∷ 1 ∷ 0 ∷ [])
     -- 12

@@ -1,24 +1,22 @@
 -- Laws of opening a value: what each return shows. Assumes nothing.
-use Prim.Native.Nat.{ℕ, zero, suc, _+_, _-_, _*_, _≤_, _<_}
+use Prim.Native.Nat.{ℕ, zero, suc, _+_, _-_, _*_, _≤_}
 use mathlib.Core.Path.{_≡_, refl, sym, ap, _∙_}
-use mathlib.Core.Bool.{Bool, true, false, _||_, or-assoc, or-false}
-use mathlib.Core.List.{List, [], _∷_}
-use native.Mathlib.Nat.{sub-zero, add-zero}
+use mathlib.Core.Bool.{Bool, true, false}
+use mathlib.Core.List.{List, _∷_}
 use native.Mathlib.Omega.{arith}
 use lib.ListN.{length}
 use lib.Dec.{eqb}
 use borrow.Author.Tests.{eq-eqb, ne-eqb}
-use Rattle.ground.specs.Choice.{pick, among}
 use Rattle.wire.specs.declared.cursor.Cursor.{Cursor}
 use Rattle.wire.specs.declared.cursor.Shortage.{Shortage}
 use Rattle.wire.specs.declared.settings.Settings.{Settings}
 use Rattle.table.specs.declared.out.Refusal.{Refusal}
 use Rattle.table.specs.declared.out.Out.{Out}
 use Rattle.table.specs.declared.out.Out.the-variants.{Read, Short, Refused}
-use Rattle.table.specs.Rows.{row, width, room, noRoom, putRow, Filled}
-use Rattle.table.specs.Outcome.{Outcome, read, short, refused, roomFor, prepend, andThen, orEndIf, closed, backTo, Done}
-use Rattle.table.proofs.Filling.{filled-none, filled-kept, filled-below, filled-one, filled-row, full-fits, room-used}
-use Rattle.table.proofs.Outcomes.{is-read, is-short, is-refused, is-same, is-after, no-room, some-room, was-read, was-short, was-refused, then-read, then-short, then-refused, end-read, end-ended, end-short, end-refused, Sofar, sofar-start, sofar-more, sofar-read, sofar-short, sofar-refused}
+use Rattle.table.specs.Rows.{row, width, room, noRoom, putRow}
+use Rattle.table.specs.Outcome.{Outcome, refused, roomFor, closed, Done}
+use Rattle.table.proofs.Filling.{filled-none, filled-below, filled-row, full-fits, room-used}
+use Rattle.table.proofs.Outcomes.{is-read, is-short, is-refused, is-same, no-room, some-room, was-read, was-short, was-refused}
 use mathlib.Core.Bool.{not}
 use Rattle.wire.specs.declared.cursor.Place.{Place}
 use Rattle.wire.specs.declared.cursor.Place.the-variants as place

@@ -1,35 +1,27 @@
 -- Laws of unions: the discriminator, and the member that it selects. Assumes nothing.
-use Prim.Native.Nat.{ℕ, zero, suc, _+_, _-_, _≤_, _<_}
-use mathlib.Core.Path.{_≡_, refl, sym, ap, _∙_}
-use mathlib.Core.Bool.{Bool, true, false, _||_, or-assoc, or-false}
-use mathlib.Core.List.{List, [], _∷_}
-use native.Mathlib.Nat.{sub-zero, add-zero}
+use Prim.Native.Nat.{ℕ, _+_, _-_, _≤_, _<_}
+use mathlib.Core.Path.{_≡_, sym, ap, _∙_}
+use mathlib.Core.Bool.{Bool, true, false}
+use mathlib.Core.List.{List, _∷_}
 use native.Mathlib.Omega.{arith}
 use lib.ListN.{length}
-use lib.Dec.{eqb}
-use borrow.Author.Tests.{eq-eqb, ne-eqb}
-use Rattle.ground.specs.Choice.{pick, among}
 use Rattle.wire.specs.declared.cursor.Cursor.{Cursor}
 use Rattle.wire.specs.declared.cursor.Shortage.{Shortage}
 use Rattle.wire.specs.declared.settings.Settings.{Settings}
 use Rattle.table.specs.declared.out.Refusal.{Refusal}
 use Rattle.table.specs.declared.out.Out.{Out}
 use Rattle.table.specs.declared.out.Out.the-variants.{Read, Short, Refused}
-use Rattle.table.specs.Rows.{row, room, noRoom, putRow, Filled}
-use Rattle.table.specs.Outcome.{Outcome, read, short, refused, roomFor, prepend, andThen, orEndIf, closed, backTo, Done}
-use Rattle.table.proofs.Filling.{filled-none, filled-kept, filled-below, filled-one, filled-row, full-fits, room-used}
-use Rattle.table.proofs.Outcomes.{is-read, is-short, is-refused, is-same, is-after, no-room, some-room, was-read, was-short, was-refused, then-read, then-short, then-refused, end-read, end-ended, end-short, end-refused, Sofar, sofar-start, sofar-more, sofar-read, sofar-short, sofar-refused}
+use Rattle.table.specs.Rows.{room, Filled}
+use Rattle.table.specs.Outcome.{Outcome, read, short, refused, prepend, Done}
+use Rattle.table.proofs.Filling.{filled-none, room-used}
+use Rattle.table.proofs.Outcomes.{is-short, is-refused, is-same, is-after, was-read, was-short, was-refused}
 use mathlib.Core.Option.{Option, none, some}
 use lib.IntN.{ℤ}
-use mir.Syntax.{w32}
-use mir.Val.{toZ, ofZ, SFits}
-use mir.Facts.{toZ-ofZ}
-use Rattle.wire.specs.Place.{cursorAt}
 use Rattle.book.specs.declared.member.Run.{Run}
 use Rattle.book.specs.declared.labels.Found.{Found}
 use Rattle.book.specs.declared.labels.Found.the-variants as found
 use Rattle.book.specs.Types.{BookType, Member}
-use Rattle.book.specs.Places.{memberAt, typeAt, listed, later, Started}
+use Rattle.book.specs.Places.{memberAt, typeAt, later, Started}
 use Rattle.book.specs.Labels.{told}
 use Rattle.book.proofs.Places.{run-more, run-none}
 use Rattle.choice.specs.Discriminator.{discriminatorOf, discriminatorAt}

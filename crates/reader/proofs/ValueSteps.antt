@@ -1,14 +1,14 @@
 -- Laws of a value and of lists of opened values: what each return and each turn shows. Assumes nothing.
-use Prim.Native.Nat.{ℕ, zero, suc, _+_, _-_, _≤_, _<_}
-use mathlib.Core.Path.{_≡_, refl, sym, ap, _∙_}
+use Prim.Native.Nat.{ℕ, suc, _+_, _-_, _≤_, _<_}
+use mathlib.Core.Path.{_≡_, sym, ap, _∙_}
 use mathlib.Core.Bool.{Bool, true, false, _||_, or-false}
 use mathlib.Core.List.{List, [], _∷_}
 use native.Mathlib.Nat.{sub-zero, add-zero}
 use native.Mathlib.Omega.{arith}
 use lib.ListN.{length}
 use lib.Dec.{eqb}
-use borrow.Author.Tests.{eq-eqb, ne-eqb}
-use Rattle.ground.specs.Choice.{pick, among}
+use borrow.Author.Tests.{ne-eqb}
+use Rattle.ground.specs.Choice.{among}
 use Rattle.wire.specs.declared.cursor.Cursor.{Cursor}
 use Rattle.wire.specs.declared.cursor.Shortage.{Shortage}
 use Rattle.wire.specs.declared.settings.Settings.{Settings}
@@ -16,12 +16,11 @@ use Rattle.table.specs.declared.out.Refusal.{Refusal}
 use Rattle.table.specs.declared.out.Out.{Out}
 use Rattle.table.specs.declared.out.Out.the-variants.{Read, Short, Refused}
 use Rattle.table.specs.Rows.{row, room, noRoom, putRow, Filled}
-use Rattle.table.specs.Outcome.{Outcome, read, short, refused, roomFor, prepend, andThen, orEndIf, closed, backTo, Done}
-use Rattle.table.proofs.Filling.{filled-none, filled-kept, filled-below, filled-one, filled-row, full-fits, room-used}
-use Rattle.table.proofs.Outcomes.{is-read, is-short, is-refused, is-same, is-after, no-room, some-room, was-read, was-short, was-refused, then-read, then-short, then-refused, end-read, end-ended, end-short, end-refused, Sofar, sofar-start, sofar-more, sofar-read, sofar-short, sofar-refused}
+use Rattle.table.specs.Outcome.{Outcome, read, roomFor, prepend, andThen, Done}
+use Rattle.table.proofs.Filling.{filled-none, filled-one, full-fits, room-used}
+use Rattle.table.proofs.Outcomes.{is-read, is-short, is-refused, is-same, is-after, no-room, some-room, was-read, was-short, was-refused, then-read, then-short, then-refused, Sofar, sofar-start, sofar-more, sofar-read, sofar-short, sofar-refused}
 use Rattle.wire.specs.declared.number.Number.{Number}
 use Rattle.wire.specs.declared.number.Number.the-variants as number
-use Rattle.wire.specs.Number.{afterNumber}
 use Rattle.wire.proofs.Numbers.{after-got, after-none}
 use Rattle.kinds.specs.Kinds.{unsupportedMember, unsupportedElement, opens}
 use Rattle.book.specs.Types.{BookType, typeNo}

@@ -142,8 +142,8 @@ pub fn fstruct_type(
                 }
                 return Out::Short(x);
             }
-            Out::Refused(k) => {
-                return Out::Refused(k);
+            Out::Refused(why) => {
+                return Out::Refused(why);
             }
         }
         ms = after(book, ms);

@@ -76,7 +76,7 @@ pub fn list_type(
     let sequence = is_sequence(book, at);
     match count_from(s, set, primitive, sequence, bound(book, at) as u64, c) {
         Number::Short(x) => Out::Short(x),
-        Number::Got(count, d) => sequence_elements(
+        Number::Got(count, first) => sequence_elements(
             book,
             index,
             s,
@@ -85,7 +85,7 @@ pub fn list_type(
             element(book, at),
             id,
             count,
-            d,
+            first,
             n,
             depth,
         ),

@@ -1,10 +1,10 @@
 -- Laws of clearing a table from a place on: what is still to be cleared gives what the whole clearing gives. Assumes nothing.
-use mathlib.Core.Path.{_≡_, refl, sym, ap, _∙_}
-use mathlib.Core.List.{List, [], _∷_, _++_, append-nil, append-assoc}
-use Prim.Native.Nat.{ℕ, zero, suc, _+_, _-_, _*_, _/_, _≤_, _<_}
+use mathlib.Core.Path.{_≡_, sym, ap}
+use mathlib.Core.List.{List, append-nil}
+use Prim.Native.Nat.{ℕ, suc, _+_, _-_, _≤_, _<_}
 use native.Mathlib.Numerals.{add-one}
 use native.Mathlib.Omega.{arith}
-use lib.ListN.{length, take, drop, set, replicate, length-set}
+use lib.ListN.{length, take, set, replicate, length-set}
 use lib.Seq.{take-all, take-suc-set, append-snoc}
 use Rattle.table.specs.Rows.{clearedFrom}
 

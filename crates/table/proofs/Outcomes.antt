@@ -1,7 +1,7 @@
 -- Laws of outcomes: what an answer tells of the outcome, what makes an answer right, and a run of values so far. Assumes nothing.
-use mathlib.Core.Path.{_≡_, refl, sym, ap, _∙_, subst}
-use mathlib.Core.List.{List, [], _∷_, _++_, append-nil, append-assoc}
-use Prim.Native.Nat.{ℕ, zero, suc, _+_, _-_, _*_, _/_, _≤_, _<_}
+use mathlib.Core.Path.{_≡_, refl, sym, ap, _∙_}
+use mathlib.Core.List.{List, [], _++_, append-nil, append-assoc}
+use Prim.Native.Nat.{ℕ, _+_, _-_, _≤_}
 use native.Mathlib.Nat.{add-zero}
 use native.Mathlib.Omega.{arith}
 use lib.ListN.{length, length-append}
@@ -13,9 +13,9 @@ use Rattle.table.specs.declared.out.Refusal.{Refusal}
 use Rattle.table.specs.declared.out.Refusal.the-variants.{NoRoom}
 use Rattle.table.specs.declared.out.Out.{Out}
 use Rattle.table.specs.declared.out.Out.the-variants.{Read, Short, Refused}
-use Rattle.table.specs.Rows.{words, room, noRoom, putRow, Filled}
-use Rattle.table.specs.Outcome.{Outcome, read, short, refused, roomFor, prepend, andThen, orEndIf, closed, backTo, answer, rowsOf, Done}
-use Rattle.table.proofs.Filling.{filled-none, filled-then, filled-kept, filled-one, full-none, full-more, full-fits}
+use Rattle.table.specs.Rows.{room, noRoom, Filled}
+use Rattle.table.specs.Outcome.{Outcome, read, short, refused, roomFor, prepend, andThen, orEndIf, answer, rowsOf, Done}
+use Rattle.table.proofs.Filling.{filled-none, filled-then, filled-kept, full-none, full-more}
 
 -- ---- what makes an answer right
 

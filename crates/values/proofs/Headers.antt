@@ -1,6 +1,6 @@
 -- Laws of what stands before contents. Assumes nothing.
 use Prim.Native.Nat.{ℕ}
-use mathlib.Core.Path.{_≡_, refl, sym, ap, _∙_}
+use mathlib.Core.Path.{_≡_, sym, ap, _∙_}
 use mathlib.Core.Bool.{Bool, true, false}
 use mathlib.Core.List.{List}
 use Rattle.wire.specs.declared.cursor.Cursor.{Cursor}
@@ -12,7 +12,7 @@ use Rattle.wire.specs.declared.settings.Version.{Version}
 use Rattle.wire.specs.declared.settings.Version.the-variants.{Xcdr1, Xcdr2}
 use Rattle.wire.specs.declared.number.Number.{Number}
 use Rattle.wire.specs.declared.number.Number.the-variants as number
-use Rattle.wire.specs.Number.{readNumber, ReadIs}
+use Rattle.wire.specs.Number.{ReadIs}
 use Rattle.values.specs.Header.{pastNumber, dheaderBy, afterDheader, placeReached, unheardDheader, listStart, countAt, countFrom}
 
 module _ (s : List ℕ) (set : Settings) (c : Cursor) where

@@ -1,6 +1,6 @@
 -- Laws of lists of values that open nothing: the loop's start, turn and ends, and the list around it. Assumes nothing.
-use Prim.Native.Nat.{ℕ, zero, suc, _+_, _-_, _≤_, _<_}
-use mathlib.Core.Path.{_≡_, refl, sym, ap, _∙_}
+use Prim.Native.Nat.{ℕ, suc, _+_, _-_, _≤_, _<_}
+use mathlib.Core.Path.{_≡_, sym, ap, _∙_}
 use mathlib.Core.Bool.{Bool, true, false}
 use mathlib.Core.List.{List, [], _∷_}
 use native.Mathlib.Nat.{sub-zero}
@@ -19,7 +19,7 @@ use Rattle.table.specs.declared.out.Refusal.the-variants.{NoRoom}
 use Rattle.table.specs.declared.out.Out.{Out}
 use Rattle.table.specs.declared.out.Out.the-variants.{Read, Short, Refused}
 use Rattle.table.specs.Rows.{row, room, noRoom, putRow, Filled}
-use Rattle.table.specs.Outcome.{Outcome, read, short, refused, roomFor, prepend, andThen, Done}
+use Rattle.table.specs.Outcome.{Outcome, read, prepend, andThen, Done}
 use Rattle.table.proofs.Filling.{filled-none, filled-one, full-fits, room-used}
 use Rattle.table.proofs.Outcomes.{is-short, is-refused, is-same, is-after, no-room, some-room, was-read, was-short, was-refused, then-read, then-short, then-refused, Sofar, sofar-start, sofar-more, sofar-read, sofar-short, sofar-refused}
 use Rattle.values.specs.Scalar.{scalarOf}

@@ -1,6 +1,6 @@
 -- Laws of a value that opens nothing: one for each way that it goes. Assumes nothing.
 use Prim.Native.Nat.{ℕ, _+_, _*_, _≤_, _<_, _^_}
-use mathlib.Core.Path.{_≡_, refl, sym, ap, _∙_}
+use mathlib.Core.Path.{_≡_, refl, sym, _∙_}
 use mathlib.Core.Bool.{Bool, true, false, _||_, or-assoc, or-false}
 use mathlib.Core.List.{List, [], _∷_}
 use native.Mathlib.Omega.{arith}
@@ -9,7 +9,7 @@ use mir.Val.{Fits}
 use lib.ListN.{length}
 use lib.Dec.{eqb}
 use borrow.Author.Tests.{ne-eqb}
-use Rattle.ground.specs.Choice.{pick, among}
+use Rattle.ground.specs.Choice.{among}
 use Rattle.wire.specs.declared.cursor.Cursor.{Cursor}
 use Rattle.wire.specs.declared.cursor.Shortage.{Shortage}
 use Rattle.wire.specs.declared.settings.Settings.{Settings}
@@ -19,10 +19,10 @@ use Rattle.wire.specs.declared.number.Float128.{Float128}
 use Rattle.wire.specs.declared.number.Float128.the-variants as float128
 use Rattle.wire.specs.declared.number.Boolean.{Boolean}
 use Rattle.wire.specs.declared.number.Boolean.the-variants as boolean
-use Rattle.wire.specs.Number.{readNumber, readFloat128, readBoolean, Small, ReadIs}
+use Rattle.wire.specs.Number.{readNumber, readFloat128, readBoolean, ReadIs}
 use Rattle.wire.specs.Signed.{extended}
 use Rattle.kinds.specs.declared.Entry.{Entry}
-use Rattle.kinds.specs.Kinds.{alignOf, storedOf, entryOf, isPrimitive, isSigned}
+use Rattle.kinds.specs.Kinds.{alignOf, entryOf, isPrimitive, isSigned}
 use Rattle.kinds.proofs.Table.{primitive-align}
 use Rattle.text.specs.declared.string.Text.{Text}
 use Rattle.text.specs.declared.string.Text.the-variants as text
@@ -31,10 +31,10 @@ use Rattle.table.specs.declared.rows.Row.{Row}
 use Rattle.table.specs.declared.out.Refusal.the-variants.{InvalidData, Unsupported, NoRoom}
 use Rattle.table.specs.declared.out.Out.{Out}
 use Rattle.table.specs.declared.out.Out.the-variants.{Read, Short, Refused}
-use Rattle.table.specs.Rows.{row, width, capacity, room, noRoom, putRow, Filled}
-use Rattle.table.specs.Outcome.{Outcome, read, short, refused, roomFor, Done}
+use Rattle.table.specs.Rows.{row, width, room, noRoom, putRow}
+use Rattle.table.specs.Outcome.{Done}
 use Rattle.table.proofs.Filling.{filled-none, filled-one, full-fits}
-use Rattle.table.proofs.Outcomes.{is-read, is-short, is-refused, is-same, no-room, some-room}
+use Rattle.table.proofs.Outcomes.{is-read, is-short, is-refused, no-room, some-room}
 use Rattle.values.specs.Scalar.{rowed, boolWord, onBoolean, onFloat128, wordOf, onNumber, onText, scalarOf, enumOf}
 
 -- a row, where it has a place

@@ -1,4 +1,4 @@
--- The functions of the reader meet their contracts: each file has one, and every need in it is found by its laws.
+-- The functions of the cycle meet their contracts. Made by tools/cycle.
 mod Base
 mod AsNested
 mod Body

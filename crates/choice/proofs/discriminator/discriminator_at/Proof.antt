@@ -2,48 +2,34 @@ use Rattle.choice.proofs.Discriminators.{at-absent, at-other, at-alone,
 use borrow.Author.Needs.{needs}
 use Rattle.choice.proofs.discriminator.discriminator_at.Statement.{statement}
 use Rattle.choice.proofs.discriminator.discriminator_at.Tie as tie
-use Rattle.choice.proofs.discriminator.discriminator_at.Reads as reads
-use Rattle.choice.proofs.discriminator.discriminator_at.Lts as lts
-use Rattle.choice.proofs.discriminator.discriminator_in.Reads as discriminator-in-reads
-use Rattle.table.proofs.rows.row_at.Reads as row-at-reads
 
--- src/discriminator.rt:32:9
 returns : tie.Need-returns
 returns c = search (needs, at-absent, at-other, at-alone, at-enum)
 
--- src/discriminator.rt:34:9
 row-at-requires : tie.Need-row-at-requires
 row-at-requires c κs = search needs
 
--- src/discriminator.rt:37:12
 sub-if3 : tie.Need-sub-if3
 sub-if3 c = search needs
 
--- src/discriminator.rt:38:13
 returns-2 : tie.Need-returns-2
 returns-2 c = search (needs, at-absent, at-other, at-alone, at-enum)
 
--- src/discriminator.rt:40:43
 add-row-at : tie.Need-add-row-at
 add-row-at c = search needs
 
--- src/discriminator.rt:40:33
 row-at-requires-2 : tie.Need-row-at-requires-2
 row-at-requires-2 c κs = search needs
 
--- src/discriminator.rt:40:9
 discriminator-in-requires : tie.Need-discriminator-in-requires
 discriminator-in-requires c κs = search needs
 
--- src/discriminator.rt:40:9
 returns-3 : tie.Need-returns-3
 returns-3 c = search (needs, at-absent, at-other, at-alone, at-enum)
 
--- src/discriminator.rt:42:5
 discriminator-in-requires-2 : tie.Need-discriminator-in-requires-2
 discriminator-in-requires-2 c κs = search needs
 
--- src/discriminator.rt:28:1
 returns-4 : tie.Need-returns-4
 returns-4 c = search (needs, at-absent, at-other, at-alone, at-enum)
 

@@ -3,23 +3,16 @@ use Rattle.choice.proofs.Selection.{handed}
 use borrow.Author.Needs.{needs}
 use Rattle.choice.proofs.discriminator.discriminator_in.Statement.{statement}
 use Rattle.choice.proofs.discriminator.discriminator_in.Tie as tie
-use Rattle.choice.proofs.discriminator.discriminator_in.Reads as reads
-use Rattle.choice.proofs.discriminator.discriminator_in.Lts as lts
-use Rattle.wire.proofs.signed.as_i32.Reads as as-i32-reads
 
--- src/discriminator.rt:22:58
 cast-as-i32 : tie.Need-cast-as-i32
 cast-as-i32 c = search needs
 
--- src/discriminator.rt:22:37
 as-i32-requires : tie.Need-as-i32-requires
 as-i32-requires c κs = search needs
 
--- src/discriminator.rt:22:9
 returns : tie.Need-returns
 returns c = search (needs, handed, in-value, in-unfit)
 
--- src/discriminator.rt:16:1
 returns-2 : tie.Need-returns-2
 returns-2 c = search (needs, handed, in-value, in-unfit)
 

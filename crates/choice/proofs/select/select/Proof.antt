@@ -2,49 +2,34 @@ use Rattle.choice.proofs.Selection.{select-first, select-last, select-d
 use borrow.Author.Needs.{needs}
 use Rattle.choice.proofs.select.select.Statement.{statement}
 use Rattle.choice.proofs.select.select.Tie as tie
-use Rattle.choice.proofs.select.select.Reads as reads
-use Rattle.choice.proofs.select.select.Lts as lts
-use Rattle.book.proofs.labels.first_with.Reads as first-with-reads
-use Rattle.book.proofs.labels.last_default.Reads as last-default-reads
-use Rattle.choice.proofs.select.by_default_value.Reads as by-default-value-reads
 
--- src/select.rt:67:11
 first-with-requires : tie.Need-first-with-requires
 first-with-requires c κs = search needs
 
--- src/select.rt:68:19
 enum-known-q : tie.Need-enum-known-q
 enum-known-q c = search needs
 
--- src/select.rt:69:33
 enum-told : tie.Need-enum-told
 enum-told c = search needs
 
--- src/select.rt:69:33
 last-default-requires : tie.Need-last-default-requires
 last-default-requires c κs = search needs
 
--- src/select.rt:70:23
 enum-known-q-2 : tie.Need-enum-known-q-2
 enum-known-q-2 c = search needs
 
--- src/select.rt:71:31
 enum-told-2 : tie.Need-enum-told-2
 enum-told-2 c = search needs
 
--- src/select.rt:71:31
 by-default-value-requires : tie.Need-by-default-value-requires
 by-default-value-requires c κs = search needs
 
--- src/select.rt:64:1
 returns : tie.Need-returns
 returns c = search (needs, select-first)
 
--- src/select.rt:64:1
 returns-2 : tie.Need-returns-2
 returns-2 c = search (needs, select-first, select-last, select-default)
 
--- src/select.rt:64:1
 returns-3 : tie.Need-returns-3
 returns-3 c = search (needs, select-first, select-last, select-default)
 

@@ -1,3 +1,4 @@
+-- `as_nested`, one of the cycle. Made by tools/cycle.
 use Rattle.values.proofs.Scalars.{row-next}
 use Rattle.reader.proofs.NestedSteps.{place-kept}
 use borrow.Author.Needs.{needs}

@@ -1,4 +1,4 @@
--- The measures of the cycle: the depth left falls at each opened value, and between two openings the rank of a function.
+-- The measures of the cycle, and what is asked of a call in it. Made by tools/cycle.
 use Prim.Native.Nat.{ℕ, _+_, _*_, _<_}
 use borrow.Fn.Kinds.{In}
 use borrow.Fn.PlainCycle.{Measures, is, falls, and}

@@ -1,3 +1,4 @@
+-- `complex`, one of the cycle. Made by tools/cycle.
 use Prim.Native.Nat.{_-_}
 use Rattle.table.specs.Rows.{room}
 use Rattle.book.specs.Places.{typesBy}

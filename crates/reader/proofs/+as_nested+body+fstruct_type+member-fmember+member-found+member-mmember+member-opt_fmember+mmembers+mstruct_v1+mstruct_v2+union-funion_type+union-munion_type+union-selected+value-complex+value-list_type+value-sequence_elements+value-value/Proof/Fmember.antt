@@ -1,3 +1,4 @@
+-- `fmember`, one of the cycle. Made by tools/cycle.
 use borrow.Author.Needs.{needs}
 use Prim.Native.Nat.{ℕ}
 use Rattle.reader.proofs.member.fmember.Reads as member·fmember

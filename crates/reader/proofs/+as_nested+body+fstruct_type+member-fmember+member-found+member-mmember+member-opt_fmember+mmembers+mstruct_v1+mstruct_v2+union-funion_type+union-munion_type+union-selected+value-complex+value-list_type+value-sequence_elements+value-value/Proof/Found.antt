@@ -1,3 +1,4 @@
+-- `found`, one of the cycle. Made by tools/cycle.
 use borrow.Author.Needs.{needs}
 use Prim.Native.Nat.{ℕ}
 use Rattle.reader.proofs.member.found.Reads as member·found

@@ -1,3 +1,4 @@
+-- `fstruct_type`, one of the cycle. Made by tools/cycle.
 use Rattle.table.specs.Rows.{room}
 use Rattle.book.specs.Places.{typeAt, typesBy}
 use Rattle.reader.specs.Cycle.{nest, fstructIn}
@@ -35,7 +36,7 @@ closed t =
     (λ c. search (needs, fstruct-type-laws))  -- returns
     (λ c. search (needs, fstruct-type-laws))  -- same-length-2
     (λ c. search (needs, fstruct-type-laws))  -- returns-2
-    (λ c. search (needs, fstruct-type-laws))  -- enum-known-k
+    (λ c. search (needs, fstruct-type-laws))  -- enum-known-why
     (λ c. search (needs, fstruct-type-laws))  -- same-length-3
     (λ c. search (needs, fstruct-type-laws))  -- returns-3
     (λ c κs. search (needs, fstruct-type-laws))  -- after-requires

@@ -1,3 +1,4 @@
+-- `funion_type`, one of the cycle. Made by tools/cycle.
 use borrow.Author.Needs.{needs}
 use Prim.Native.Nat.{ℕ}
 use Rattle.reader.proofs.union.funion_type.Reads as union·funion-type

@@ -1,3 +1,4 @@
+-- `list_type`, one of the cycle. Made by tools/cycle.
 use borrow.Author.Needs.{needs}
 use Prim.Native.Nat.{ℕ}
 use Rattle.reader.proofs.value.list_type.Reads as value·list-type

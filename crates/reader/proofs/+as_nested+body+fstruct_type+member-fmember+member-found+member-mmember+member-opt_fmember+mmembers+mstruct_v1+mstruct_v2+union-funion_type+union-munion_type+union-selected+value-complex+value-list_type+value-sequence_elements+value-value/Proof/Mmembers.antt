@@ -1,3 +1,4 @@
+-- `mmembers`, one of the cycle. Made by tools/cycle.
 use Rattle.table.specs.Rows.{room}
 use Rattle.book.specs.Places.{typeAt, typesBy}
 use Rattle.reader.specs.Cycle.{nest, membersIn}

@@ -1,3 +1,4 @@
+-- `mstruct_v1`, one of the cycle. Made by tools/cycle.
 use borrow.Author.Needs.{needs}
 use Prim.Native.Nat.{ℕ}
 use Rattle.reader.proofs.mstruct_v1.Reads as mstruct-v1

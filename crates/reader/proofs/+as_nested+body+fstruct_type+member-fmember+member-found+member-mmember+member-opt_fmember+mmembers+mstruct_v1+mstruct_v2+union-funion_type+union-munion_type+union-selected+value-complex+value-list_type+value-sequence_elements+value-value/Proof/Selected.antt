@@ -1,3 +1,4 @@
+-- `selected`, one of the cycle. Made by tools/cycle.
 use borrow.Author.Needs.{needs}
 use Prim.Native.Nat.{ℕ}
 use Rattle.reader.proofs.union.selected.Reads as union·selected

@@ -1,3 +1,4 @@
+-- `sequence_elements`, one of the cycle. Made by tools/cycle.
 use Rattle.values.proofs.Scalars.{row-next}
 use borrow.Author.Needs.{needs}
 use Prim.Native.Nat.{ℕ}

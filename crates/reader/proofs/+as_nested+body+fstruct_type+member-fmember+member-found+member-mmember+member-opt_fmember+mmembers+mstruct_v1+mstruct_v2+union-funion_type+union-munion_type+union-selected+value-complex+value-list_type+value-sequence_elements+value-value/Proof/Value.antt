@@ -1,3 +1,4 @@
+-- `value`, one of the cycle. Made by tools/cycle.
 use borrow.Author.Needs.{needs}
 use Prim.Native.Nat.{ℕ}
 use Rattle.reader.proofs.value.value.Reads as value·value

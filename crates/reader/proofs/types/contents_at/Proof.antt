@@ -2,24 +2,16 @@ use Rattle.reader.proofs.Asked.{contents-appended, contents-here}
 use borrow.Author.Needs.{needs}
 use Rattle.reader.proofs.types.contents_at.Statement.{statement}
 use Rattle.reader.proofs.types.contents_at.Tie as tie
-use Rattle.reader.proofs.types.contents_at.Reads as reads
-use Rattle.reader.proofs.types.contents_at.Lts as lts
-use Rattle.book.proofs.types.extensibility.Reads as extensibility-reads
-use Rattle.values.proofs.header.after_dheader.Reads as after-dheader-reads
 
--- src/types.rt:93:8
 extensibility-requires : tie.Need-extensibility-requires
 extensibility-requires c κs = search needs
 
--- src/types.rt:94:9
 after-dheader-requires : tie.Need-after-dheader-requires
 after-dheader-requires c κs = search needs
 
--- src/types.rt:94:9
 returns : tie.Need-returns
 returns c = search (needs, contents-appended, contents-here)
 
--- src/types.rt:90:1
 returns-2 : tie.Need-returns-2
 returns-2 c = search (needs, contents-appended, contents-here)
 

@@ -7,8 +7,6 @@ use Rattle.table.specs.Rows.{width, clearedFrom}
 use Rattle.table.proofs.Clearing.{cleared-turn, cleared-end}
 use Rattle.table.proofs.rows.clear_after.Statement.{statement}
 use Rattle.table.proofs.rows.clear_after.Tie as tie
-use Rattle.table.proofs.rows.clear_after.Reads as reads
-use Rattle.table.proofs.rows.clear_after.Lts as lts
 
 abbrev Inv-loop : tie.InvT-loop
 Inv-loop t₀ n i₀ t i = (length t ≡ length t₀) × (clearedFrom i t ≡ clearedFrom (width * n) t₀)
@@ -16,39 +14,30 @@ Inv-loop t₀ n i₀ t i = (length t ≡ length t₀) × (clearedFrom i t ≡ cl
 abbrev μ-loop : tie.MeasureT-loop
 μ-loop t₀ n i₀ t i = length t - i
 
--- src/rows.rt:62:17
 mul-i : tie.Need-mul-i Inv-loop μ-loop
 mul-i c = search needs
 
--- src/rows.rt:63:5
 loop-holds : tie.Need-loop-holds Inv-loop μ-loop
 loop-holds c = (refl, refl)
 
--- src/rows.rt:64:9
 mul-t : tie.Need-mul-t Inv-loop μ-loop
 mul-t c = search needs
 
--- src/rows.rt:64:9
 slice-write-t : tie.Need-slice-write-t Inv-loop μ-loop
 slice-write-t c = search needs
 
--- src/rows.rt:65:9
 add-i : tie.Need-add-i Inv-loop μ-loop
 add-i c = search needs
 
--- src/rows.rt:63:5
 loop-less : tie.Need-loop-less Inv-loop μ-loop
 loop-less c = simp length-set (omega arith)
 
--- src/rows.rt:63:5
 loop-again : tie.Need-loop-again Inv-loop μ-loop
 loop-again c = let l = c .before .loop in (length-set (l .t) (l .i) 0 ∙ l .inv .0, cleared-turn (l .t) (l .i) (c .loop-test .taken) ∙ l .inv .1)
 
--- src/rows.rt:58:1
 same-length : tie.Need-same-length Inv-loop μ-loop
 same-length c = search needs
 
--- src/rows.rt:58:1
 returns : tie.Need-returns Inv-loop μ-loop
 returns c = let l = c .before .loop in cleared-end (l .t) (l .i) (c .loop-test .left) ∙ l .inv .1
 

@@ -4,62 +4,46 @@ use Rattle.table.proofs.Filling.{put-row}
 use borrow.Author.Needs.{needs}
 use Rattle.table.proofs.rows.put_row.Statement.{statement}
 use Rattle.table.proofs.rows.put_row.Tie as tie
-use Rattle.table.proofs.rows.put_row.Reads as reads
-use Rattle.table.proofs.rows.put_row.Lts as lts
 
--- src/rows.rt:29:13
 mul-i : tie.Need-mul-i
 mul-i c = search needs
 
--- src/rows.rt:30:5
 mul-t : tie.Need-mul-t
 mul-t c = search needs
 
--- src/rows.rt:30:5
 slice-write-t : tie.Need-slice-write-t
 slice-write-t c = search needs
 
--- src/rows.rt:31:7
 add-t : tie.Need-add-t
 add-t c = search needs
 
--- src/rows.rt:31:5
 mul-t-2 : tie.Need-mul-t-2
 mul-t-2 c = search needs
 
--- src/rows.rt:31:5
 slice-write-t-2 : tie.Need-slice-write-t-2
 slice-write-t-2 c = simp length-set (omega arith)
 
--- src/rows.rt:32:7
 add-t-2 : tie.Need-add-t-2
 add-t-2 c = search needs
 
--- src/rows.rt:32:5
 mul-t-3 : tie.Need-mul-t-3
 mul-t-3 c = search needs
 
--- src/rows.rt:32:5
 slice-write-t-3 : tie.Need-slice-write-t-3
 slice-write-t-3 c = simp length-set (omega arith)
 
--- src/rows.rt:33:7
 add-t-3 : tie.Need-add-t-3
 add-t-3 c = search needs
 
--- src/rows.rt:33:5
 mul-t-4 : tie.Need-mul-t-4
 mul-t-4 c = search needs
 
--- src/rows.rt:33:5
 slice-write-t-4 : tie.Need-slice-write-t-4
 slice-write-t-4 c = simp length-set (omega arith)
 
--- src/rows.rt:25:1
 same-length : tie.Need-same-length
 same-length c = search needs
 
--- src/rows.rt:25:1
 returns : tie.Need-returns
 returns c = let a = c .args in put-row (a .t .now) (a .n) (a .r) (c .pre)
 

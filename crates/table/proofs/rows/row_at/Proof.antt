@@ -2,62 +2,46 @@ use Rattle.table.proofs.Filling.{row-none, row-some}
 use borrow.Author.Needs.{needs}
 use Rattle.table.proofs.rows.row_at.Statement.{statement}
 use Rattle.table.proofs.rows.row_at.Tie as tie
-use Rattle.table.proofs.rows.row_at.Reads as reads
-use Rattle.table.proofs.rows.row_at.Lts as lts
 
--- src/rows.rt:41:9
 returns : tie.Need-returns
 returns c = search (needs, row-none)
 
--- src/rows.rt:48:13
 mul-i : tie.Need-mul-i
 mul-i c = search needs
 
--- src/rows.rt:50:15
 mul-t4 : tie.Need-mul-t4
 mul-t4 c = search needs
 
--- src/rows.rt:50:15
 shared-slice-read-t8 : tie.Need-shared-slice-read-t8
 shared-slice-read-t8 c = search needs
 
--- src/rows.rt:51:15
 add-t5 : tie.Need-add-t5
 add-t5 c = search needs
 
--- src/rows.rt:51:13
 mul-t9 : tie.Need-mul-t9
 mul-t9 c = search needs
 
--- src/rows.rt:51:13
 shared-slice-read-t11 : tie.Need-shared-slice-read-t11
 shared-slice-read-t11 c = search needs
 
--- src/rows.rt:52:14
 add-t12 : tie.Need-add-t12
 add-t12 c = search needs
 
--- src/rows.rt:52:12
 mul-t13 : tie.Need-mul-t13
 mul-t13 c = search needs
 
--- src/rows.rt:52:12
 shared-slice-read-t15 : tie.Need-shared-slice-read-t15
 shared-slice-read-t15 c = search needs
 
--- src/rows.rt:53:14
 add-t16 : tie.Need-add-t16
 add-t16 c = search needs
 
--- src/rows.rt:53:12
 mul-t17 : tie.Need-mul-t17
 mul-t17 c = search needs
 
--- src/rows.rt:53:12
 shared-slice-read-t19 : tie.Need-shared-slice-read-t19
 shared-slice-read-t19 c = search needs
 
--- src/rows.rt:37:1
 returns-2 : tie.Need-returns-2
 returns-2 c = search (needs, row-some)
 

@@ -2,39 +2,28 @@ use Rattle.values.proofs.Headers.{dheader-none, dheader-past, dheader-s
 use borrow.Author.Needs.{needs}
 use Rattle.values.proofs.header.after_dheader.Statement.{statement}
 use Rattle.values.proofs.header.after_dheader.Tie as tie
-use Rattle.values.proofs.header.after_dheader.Reads as reads
-use Rattle.values.proofs.header.after_dheader.Lts as lts
-use Rattle.wire.proofs.number.read_number.Reads as read-number-reads
 
--- src/header.rt:16:27
 enum-told : tie.Need-enum-told
 enum-told c = search needs
 
--- src/header.rt:17:33
 enum-told-2 : tie.Need-enum-told-2
 enum-told-2 c = search needs
 
--- src/header.rt:17:33
 read-number-requires : tie.Need-read-number-requires
 read-number-requires c κs = search needs
 
--- src/header.rt:18:28
 enum-known-c : tie.Need-enum-known-c
 enum-known-c c = search needs
 
--- src/header.rt:19:27
 enum-known-x : tie.Need-enum-known-x
 enum-known-x c = search needs
 
--- src/header.rt:11:1
 returns : tie.Need-returns
 returns c = search (needs, dheader-none, dheader-past, dheader-short)
 
--- src/header.rt:11:1
 returns-2 : tie.Need-returns-2
 returns-2 c = search (needs, dheader-none, dheader-past, dheader-short)
 
--- src/header.rt:11:1
 returns-3 : tie.Need-returns-3
 returns-3 c = search (needs, dheader-none, dheader-past, dheader-short)
 

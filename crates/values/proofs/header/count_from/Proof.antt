@@ -2,36 +2,25 @@ use Rattle.values.proofs.Headers.{count-short, count-sequence, count-ar
 use borrow.Author.Needs.{needs}
 use Rattle.values.proofs.header.count_from.Statement.{statement}
 use Rattle.values.proofs.header.count_from.Tie as tie
-use Rattle.values.proofs.header.count_from.Reads as reads
-use Rattle.values.proofs.header.count_from.Lts as lts
-use Rattle.values.proofs.header.list_start.Reads as list-start-reads
-use Rattle.wire.proofs.number.read_number.Reads as read-number-reads
 
--- src/header.rt:48:11
 list-start-requires : tie.Need-list-start-requires
 list-start-requires c κs = search needs
 
--- src/header.rt:49:22
 enum-known-x : tie.Need-enum-known-x
 enum-known-x c = search needs
 
--- src/header.rt:50:19
 enum-known-c : tie.Need-enum-known-c
 enum-known-c c = search needs
 
--- src/header.rt:52:17
 read-number-requires : tie.Need-read-number-requires
 read-number-requires c κs = search needs
 
--- src/header.rt:52:17
 returns : tie.Need-returns
 returns c = search (needs, count-short, count-sequence, count-array)
 
--- src/header.rt:45:1
 returns-2 : tie.Need-returns-2
 returns-2 c = search (needs, count-short, count-sequence, count-array)
 
--- src/header.rt:45:1
 returns-3 : tie.Need-returns-3
 returns-3 c = search (needs, count-short, count-sequence, count-array)
 

@@ -2,27 +2,19 @@ use Rattle.values.proofs.Headers.{unheard-past, unheard-short}
 use borrow.Author.Needs.{needs}
 use Rattle.values.proofs.header.unheard_dheader.Statement.{statement}
 use Rattle.values.proofs.header.unheard_dheader.Tie as tie
-use Rattle.values.proofs.header.unheard_dheader.Reads as reads
-use Rattle.values.proofs.header.unheard_dheader.Lts as lts
-use Rattle.values.proofs.header.after_dheader.Reads as after-dheader-reads
 
--- src/header.rt:28:11
 after-dheader-requires : tie.Need-after-dheader-requires
 after-dheader-requires c κs = search needs
 
--- src/header.rt:29:19
 enum-known-c : tie.Need-enum-known-c
 enum-known-c c = search needs
 
--- src/header.rt:30:22
 enum-known-x : tie.Need-enum-known-x
 enum-known-x c = search needs
 
--- src/header.rt:25:1
 returns : tie.Need-returns
 returns c = search (needs, unheard-past, unheard-short)
 
--- src/header.rt:25:1
 returns-2 : tie.Need-returns-2
 returns-2 c = search (needs, unheard-past, unheard-short)
 

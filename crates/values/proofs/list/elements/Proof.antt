@@ -5,9 +5,6 @@ use Rattle.table.specs.Rows.{room}
 use Rattle.values.specs.List.{elementsFrom}
 use Rattle.values.proofs.list.elements.Statement.{statement}
 use Rattle.values.proofs.list.elements.Tie as tie
-use Rattle.values.proofs.list.elements.Reads as reads
-use Rattle.values.proofs.list.elements.Lts as lts
-use Rattle.values.proofs.scalar.scalar.Reads as scalar-reads
 
 abbrev Inv-loop : tie.InvT-loop
 Inv-loop s set t₀ kind count n i₀ c₀ m₀ t i c m = ElementsSofar s set kind count (elementsFrom s set kind count 0 c₀ (room t₀ n)) n t₀ t i c m
@@ -15,59 +12,45 @@ Inv-loop s set t₀ kind count n i₀ c₀ m₀ t i c m = ElementsSofar s set ki
 abbrev μ-loop : tie.MeasureT-loop
 μ-loop s set t₀ kind count n i₀ c₀ m₀ t i c m = count - i
 
--- src/list.rt:22:5
 loop-holds : tie.Need-loop-holds Inv-loop μ-loop
 loop-holds c = search (needs, elements-start, elements-turn, elements-short, elements-refused, elements-end)
 
--- src/list.rt:23:15
 scalar-requires : tie.Need-scalar-requires Inv-loop μ-loop
 scalar-requires c κs = search (needs, elements-start, elements-turn, elements-short, elements-refused, elements-end)
 
--- src/list.rt:24:23
 enum-known-d : tie.Need-enum-known-d Inv-loop μ-loop
 enum-known-d c = search (needs, elements-start, elements-turn, elements-short, elements-refused, elements-end)
 
--- src/list.rt:28:24
 enum-known-x : tie.Need-enum-known-x Inv-loop μ-loop
 enum-known-x c = search (needs, elements-start, elements-turn, elements-short, elements-refused, elements-end)
 
--- src/list.rt:29:17
 same-length : tie.Need-same-length Inv-loop μ-loop
 same-length c = search (needs, elements-start, elements-turn, elements-short, elements-refused, elements-end)
 
--- src/list.rt:29:17
 returns : tie.Need-returns Inv-loop μ-loop
 returns c = search (needs, elements-start, elements-turn, elements-short, elements-refused, elements-end)
 
--- src/list.rt:31:26
 enum-known-k : tie.Need-enum-known-k Inv-loop μ-loop
 enum-known-k c = search (needs, elements-start, elements-turn, elements-short, elements-refused, elements-end)
 
--- src/list.rt:32:17
 same-length-2 : tie.Need-same-length-2 Inv-loop μ-loop
 same-length-2 c = search (needs, elements-start, elements-turn, elements-short, elements-refused, elements-end)
 
--- src/list.rt:32:17
 returns-2 : tie.Need-returns-2 Inv-loop μ-loop
 returns-2 c = search (needs, elements-start, elements-turn, elements-short, elements-refused, elements-end)
 
--- src/list.rt:35:9
 add-i : tie.Need-add-i Inv-loop μ-loop
 add-i c = search (needs, elements-start, elements-turn, elements-short, elements-refused, elements-end)
 
--- src/list.rt:22:5
 loop-less : tie.Need-loop-less Inv-loop μ-loop
 loop-less c = search (needs, elements-start, elements-turn, elements-short, elements-refused, elements-end)
 
--- src/list.rt:22:5
 loop-again : tie.Need-loop-again Inv-loop μ-loop
 loop-again c = search (needs, elements-start, elements-turn, elements-short, elements-refused, elements-end)
 
--- src/list.rt:16:1
 same-length-3 : tie.Need-same-length-3 Inv-loop μ-loop
 same-length-3 c = search (needs, elements-start, elements-turn, elements-short, elements-refused, elements-end)
 
--- src/list.rt:16:1
 returns-3 : tie.Need-returns-3 Inv-loop μ-loop
 returns-3 c = search (needs, elements-start, elements-turn, elements-short, elements-refused, elements-end)
 

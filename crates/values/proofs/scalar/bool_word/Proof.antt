@@ -2,14 +2,10 @@ use borrow.Author.Needs.{needs}
 use Rattle.values.proofs.Scalars.{word-one, word-none}
 use Rattle.values.proofs.scalar.bool_word.Statement.{statement}
 use Rattle.values.proofs.scalar.bool_word.Tie as tie
-use Rattle.values.proofs.scalar.bool_word.Reads as reads
-use Rattle.values.proofs.scalar.bool_word.Lts as lts
 
--- src/scalar.rt:31:1
 returns : tie.Need-returns
 returns c = search (needs, word-one, word-none)
 
--- src/scalar.rt:31:1
 returns-2 : tie.Need-returns-2
 returns-2 c = search (needs, word-one, word-none)
 

@@ -2,93 +2,64 @@ use Rattle.values.proofs.Scalars.{number-some, number-most, scalar-bool
 use borrow.Author.Needs.{needs}
 use Rattle.values.proofs.scalar.scalar.Statement.{statement}
 use Rattle.values.proofs.scalar.scalar.Tie as tie
-use Rattle.values.proofs.scalar.scalar.Reads as reads
-use Rattle.values.proofs.scalar.scalar.Lts as lts
-use Rattle.kinds.proofs.is_primitive.Reads as is-primitive-reads
-use Rattle.text.proofs.string.string_type.Reads as string-type-reads
-use Rattle.text.proofs.string.wstring_type.Reads as wstring-type-reads
-use Rattle.values.proofs.scalar.boolean.Reads as boolean-reads
-use Rattle.values.proofs.scalar.float128.Reads as float128-reads
-use Rattle.values.proofs.scalar.number.Reads as number-reads
-use Rattle.values.proofs.scalar.string.Reads as string-reads
 
--- src/scalar.rt:131:14
 boolean-requires : tie.Need-boolean-requires
 boolean-requires c κs = search needs
 
--- src/scalar.rt:132:15
 float128-requires : tie.Need-float128-requires
 float128-requires c κs = search needs
 
--- src/scalar.rt:134:36
 string-type-requires : tie.Need-string-type-requires
 string-type-requires c κs = search needs
 
--- src/scalar.rt:134:15
 string-requires : tie.Need-string-requires
 string-requires c κs = search needs
 
--- src/scalar.rt:135:36
 wstring-type-requires : tie.Need-wstring-type-requires
 wstring-type-requires c κs = search needs
 
--- src/scalar.rt:135:15
 string-requires-2 : tie.Need-string-requires-2
 string-requires-2 c κs = search needs
 
--- src/scalar.rt:137:16
 is-primitive-requires : tie.Need-is-primitive-requires
 is-primitive-requires c κs = search needs
 
--- src/scalar.rt:138:17
 number-requires : tie.Need-number-requires
 number-requires c κs = search (needs, number-some, number-most, scalar-boolean, scalar-float128, scalar-char16, scalar-string, scalar-wstring, scalar-number, scalar-none)
 
--- src/scalar.rt:138:17
 same-length : tie.Need-same-length
 same-length c = search needs
 
--- src/scalar.rt:138:17
 returns : tie.Need-returns
 returns c = search (needs, number-some, number-most, scalar-boolean, scalar-float128, scalar-char16, scalar-string, scalar-wstring, scalar-number, scalar-none)
 
--- src/scalar.rt:127:1
 same-length-2 : tie.Need-same-length-2
 same-length-2 c = search needs
 
--- src/scalar.rt:127:1
 returns-2 : tie.Need-returns-2
 returns-2 c = search (needs, number-some, number-most, scalar-boolean, scalar-float128, scalar-char16, scalar-string, scalar-wstring, scalar-number, scalar-none)
 
--- src/scalar.rt:127:1
 same-length-3 : tie.Need-same-length-3
 same-length-3 c = search needs
 
--- src/scalar.rt:127:1
 returns-3 : tie.Need-returns-3
 returns-3 c = search (needs, number-some, number-most, scalar-boolean, scalar-float128, scalar-char16, scalar-string, scalar-wstring, scalar-number, scalar-none)
 
--- src/scalar.rt:127:1
 returns-4 : tie.Need-returns-4
 returns-4 c = search (needs, number-some, number-most, scalar-boolean, scalar-float128, scalar-char16, scalar-string, scalar-wstring, scalar-number, scalar-none)
 
--- src/scalar.rt:127:1
 same-length-4 : tie.Need-same-length-4
 same-length-4 c = search needs
 
--- src/scalar.rt:127:1
 returns-5 : tie.Need-returns-5
 returns-5 c = search (needs, number-some, number-most, scalar-boolean, scalar-float128, scalar-char16, scalar-string, scalar-wstring, scalar-number, scalar-none)
 
--- src/scalar.rt:127:1
 same-length-5 : tie.Need-same-length-5
 same-length-5 c = search needs
 
--- src/scalar.rt:127:1
 returns-6 : tie.Need-returns-6
 returns-6 c = search (needs, number-some, number-most, scalar-boolean, scalar-float128, scalar-char16, scalar-string, scalar-wstring, scalar-number, scalar-none)
 
--- src/scalar.rt:127:1
 returns-7 : tie.Need-returns-7
 returns-7 c = search (needs, number-some, number-most, scalar-boolean, scalar-float128, scalar-char16, scalar-string, scalar-wstring, scalar-number, scalar-none)
 

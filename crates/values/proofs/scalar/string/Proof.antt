@@ -2,39 +2,28 @@ use Rattle.values.proofs.Scalars.{text-row, text-bad, text-short}
 use borrow.Author.Needs.{needs}
 use Rattle.values.proofs.scalar.string.Statement.{statement}
 use Rattle.values.proofs.scalar.string.Tie as tie
-use Rattle.values.proofs.scalar.string.Reads as reads
-use Rattle.values.proofs.scalar.string.Lts as lts
-use Rattle.values.proofs.scalar.give_row.Reads as give-row-reads
 
--- src/scalar.rt:112:19
 enum-known-got : tie.Need-enum-known-got
 enum-known-got c = search needs
 
--- src/scalar.rt:119:13
 give-row-requires : tie.Need-give-row-requires
 give-row-requires c κs = search needs
 
--- src/scalar.rt:121:35
 enum-told : tie.Need-enum-told
 enum-told c = search needs
 
--- src/scalar.rt:122:21
 enum-known-got-2 : tie.Need-enum-known-got-2
 enum-known-got-2 c = search needs
 
--- src/scalar.rt:108:1
 same-length : tie.Need-same-length
 same-length c = search needs
 
--- src/scalar.rt:108:1
 returns : tie.Need-returns
 returns c = search (needs, text-row, text-bad, text-short)
 
--- src/scalar.rt:108:1
 returns-2 : tie.Need-returns-2
 returns-2 c = search (needs, text-row, text-bad, text-short)
 
--- src/scalar.rt:108:1
 returns-3 : tie.Need-returns-3
 returns-3 c = search (needs, text-row, text-bad, text-short)
 

@@ -2,59 +2,45 @@ use Rattle.table.specs.Outcome.{refusalNumber}
 use borrow.Author.Needs.{needs}
 use Rattle.table.proofs.out.Refusal.number.Statement.{statement}
 use Rattle.table.proofs.out.Refusal.number.Tie as tie
-use Rattle.table.proofs.out.Refusal.number.Reads as reads
-use Rattle.table.proofs.out.Refusal.number.Lts as lts
 
--- src/out.rt:29:37
 enum-told : tie.Need-enum-told
 enum-told c = search needs
 
--- src/out.rt:30:37
 enum-told-2 : tie.Need-enum-told-2
 enum-told-2 c = search needs
 
--- src/out.rt:31:37
 enum-told-3 : tie.Need-enum-told-3
 enum-told-3 c = search needs
 
--- src/out.rt:32:33
 enum-told-4 : tie.Need-enum-told-4
 enum-told-4 c = search needs
 
--- src/out.rt:33:32
 enum-told-5 : tie.Need-enum-told-5
 enum-told-5 c = search needs
 
--- src/out.rt:34:41
 enum-told-6 : tie.Need-enum-told-6
 enum-told-6 c = search needs
 
--- src/out.rt:25:5
 returns : tie.Need-returns
 unfolding refusalNumber
 returns c = rw (c .enum-told .given .1)
 
--- src/out.rt:25:5
 returns-2 : tie.Need-returns-2
 unfolding refusalNumber
 returns-2 c = rw (c .enum-told2 .given .1)
 
--- src/out.rt:25:5
 returns-3 : tie.Need-returns-3
 unfolding refusalNumber
 returns-3 c = rw (c .enum-told3 .given .1)
 
--- src/out.rt:25:5
 returns-4 : tie.Need-returns-4
 unfolding refusalNumber
 returns-4 c = rw (c .enum-told4 .given .1)
 
--- src/out.rt:25:5
 returns-5 : tie.Need-returns-5
 unfolding refusalNumber
 returns-5 c = rw (c .enum-told5 .given .1)
 
--- src/out.rt:25:5
 returns-6 : tie.Need-returns-6
 unfolding refusalNumber
 returns-6 c = rw (c .enum-told6 .given .1)
