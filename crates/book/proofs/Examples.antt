@@ -2,13 +2,13 @@
 -- refused. The program `examples` runs the same books, and those at the bounds.
 use Prim.Native.Nat.{ℕ, zero, suc, _+_, _*_, _/_, _%_}
 use mathlib.Core.Path.{_≡_, refl}
-use mathlib.Core.Bool.{Bool, true, false, not, _&&_}
+use mathlib.Core.Bool.{Bool, true, false, not}
 use mathlib.Core.List.{List, [], _∷_, _++_}
 use lib.Dec.{eqb}
 use lib.ListN.{length, take, drop, set, replicate}
 use Rattle.ground.specs.Choice.{both}
 use Rattle.book.specs.Types.{Member, BookType, default, bounded, labelsOf, memberOf, pastMember, membersOf, typeOf, pastType, typesFrom, typesOf, typeCount, noType, typeNo}
-use Rattle.book.specs.Rules.{sizeOk, versionOk, typeCountOk, headOk, filled, recordLengthOk, kindOk, extensibilityOk, baseOk, boundFlagOk, codesOk, arrayBoundOk, boundOk, elementOk, memberCountOk, memberKindOk, someMemberOk, ownOk}
+use Rattle.book.specs.Rules.{sizeOk, versionOk, typeCountOk, headOk, filled, recordLengthOk, kindOk, extensibilityOk, baseOk, boundFlagOk, codesOk, arrayBoundOk, boundOk, boundsOk, elementOk, memberCountOk, memberKindOk, someMemberOk, countOk, ownOk}
 use Rattle.book.specs.Rules.{every, otherId, idOk, linkOk, flagsOk, constructOk, labelCountOk, firstOfUnion, firstIdOk, firstKindOk, firstDefaultOk, firstLabelOk, memberOk, membersOk, typeOk, recordOk, recordsOk, bookOk}
 
 -- THE RULES ONE BY ONE, each asked of the whole book, in reading order
@@ -202,5 +202,5 @@ types1 = refl
 
 -- THE TABLE
 judged : both (every bookOk right) (every refused bad) ≡ true
-unfolding default bounded labelsOf memberOf pastMember membersOf typeOf pastType typesFrom typesOf noType typeNo sizeOk versionOk typeCountOk headOk filled recordLengthOk kindOk extensibilityOk baseOk boundFlagOk codesOk arrayBoundOk boundOk elementOk memberCountOk memberKindOk someMemberOk ownOk every otherId idOk linkOk flagsOk constructOk labelCountOk firstOfUnion firstIdOk firstKindOk firstDefaultOk firstLabelOk memberOk membersOk typeOk recordOk recordsOk bookOk
+unfolding default bounded labelsOf memberOf pastMember membersOf typeOf pastType typesFrom typesOf noType typeNo sizeOk versionOk typeCountOk headOk filled recordLengthOk kindOk extensibilityOk baseOk boundFlagOk codesOk arrayBoundOk boundOk boundsOk elementOk memberCountOk memberKindOk someMemberOk countOk ownOk every otherId idOk linkOk flagsOk constructOk labelCountOk firstOfUnion firstIdOk firstKindOk firstDefaultOk firstLabelOk memberOk membersOk typeOk recordOk recordsOk bookOk
 judged = refl

@@ -1,18 +1,21 @@
 -- What a right book gives to those who read it: each rule as a fact about its types. Assumes nothing.
 use Prim.Native.Nat.{ℕ, zero, suc, _+_, _<_, _≤_}
-use mathlib.Core.Path.{_≡_, refl, sym, ap, _∙_}
+use mathlib.Core.Path.{_≡_, refl, sym, ap, subst, _∙_}
 use mathlib.Core.Bool.{Bool, true, false, not, _&&_, _||_}
 use mathlib.Core.List.{List, [], _∷_, _++_, append-assoc, append-nil}
+use mathlib.Core.Option.{Option, none, some}
 use native.Mathlib.Omega.{arith}
 use native.Mathlib.Nat.{add-zero, le-of-lt}
 use lib.Dec.{eqb, ltb, leb}
 use lib.ListN.{length, getD, take, drop}
+use lib.IntN.{ℤ}
 use lib.Seq.{length-take-le, getD-take}
 use borrow.Author.Tests.{leb-true, ltb-true, eqb-true, eq-eqb, ne-eqb, not-true, eqb-false}
-use Rattle.ground.specs.Choice.{pick, both, _‥_, within}
-use Rattle.book.specs.Types.{Member, BookType, default, bounded, noIndex, quad, memberOf, typeOf, pastType, typeCount, typesFrom, typesOf, typeNo}
+use Rattle.ground.specs.Choice.{both, _‥_, within}
+use Rattle.book.specs.Types.{Member, BookType, default, bounded, noIndex, quad, typeOf, pastType, typeCount, typesFrom, typesOf, typeNo}
 use Rattle.book.specs.Places.{from, typesBy, indexCount, indexed}
-use Rattle.book.specs.Rules.{isEnum, isUnion, isArray, isList, sizeOk, versionOk, typeCountOk, headOk, recordLengthOk, kindOk, extensibilityOk, baseOk, boundFlagOk, codesOk, arrayBoundOk, boundOk, elementOk, memberCountOk, memberKindOk, someMemberOk, ownOk}
+use Rattle.book.specs.Labels.{isIn, orElse, when, firstWith, lastDefault}
+use Rattle.book.specs.Rules.{isEnum, isUnion, isArray, isList, sizeOk, versionOk, typeCountOk, headOk, recordLengthOk, kindOk, extensibilityOk, baseOk, boundFlagOk, codesOk, arrayBoundOk, boundOk, boundsOk, elementOk, memberCountOk, memberKindOk, someMemberOk, countOk, ownOk}
 use Rattle.book.specs.Rules.{every, otherId, idOk, linkOk, flagsOk, constructOk, labelCountOk, firstOfUnion, firstIdOk, firstKindOk, firstDefaultOk, firstLabelOk, memberOk, membersOk, typeOk, recordOk, recordsOk, bookOk}
 use Rattle.book.proofs.Kept.{apart, both-first, both-second, kept, asked, or-other, picked, unpicked}
 use Rattle.book.proofs.Indexing.{index-types}
@@ -52,7 +55,8 @@ module _ (b t : List ℕ) (e : bookOk b ≡ true) (room : 64 ≤ length t) where
   index-good = index-types b t ∙ ap (λ (n : ℕ). typesFrom n (drop 7 b)) index-all
 
 -- EACH TYPE KEEPS THE RULES AT ITS OWN NUMBER
-each-type : (types : List BookType) (k n j : ℕ) (s : List ℕ) → recordsOk types k n s ≡ true → j < n → typeOk types (k + j) (typeNo (typesFrom n s) j) ≡ true
+each-type : (types : List BookType) (k n j : ℕ) (s : List ℕ) → recordsOk types k n s ≡ true → j < n
+    → typeOk types (k + j) (typeNo (typesFrom n s) j) ≡ true
 unfolding recordsOk recordOk typesFrom typeNo
 each-type types k zero j s e h = absurd (omega arith)
 each-type types k (suc n) zero s e h =
@@ -99,9 +103,9 @@ or-swap true b e h = refl
 or-swap false b e h = absurd (apart (sym h ∙ e))
 
 module _ (k : ℕ) (t : BookType) (e : ownOk k t ≡ true) where
-  own : (i : ℕ) → getD (codesOk t ∷ (arrayBoundOk t && boundOk t) ∷ elementOk k t ∷ (memberCountOk t && memberKindOk t && someMemberOk t) ∷ []) i true ≡ true
+  own : (i : ℕ) → getD (codesOk t ∷ boundsOk t ∷ elementOk k t ∷ countOk t ∷ []) i true ≡ true
   unfolding ownOk
-  own i = kept i (codesOk t) ((arrayBoundOk t && boundOk t) ∷ elementOk k t ∷ (memberCountOk t && memberKindOk t && someMemberOk t) ∷ []) e
+  own i = kept i (codesOk t) (boundsOk t ∷ elementOk k t ∷ countOk t ∷ []) e
 
   codes : (i : ℕ) → getD (kindOk t ∷ extensibilityOk t ∷ baseOk t ∷ boundFlagOk t ∷ []) i true ≡ true
   unfolding codesOk
@@ -112,14 +116,16 @@ module _ (k : ℕ) (t : BookType) (e : ownOk k t ≡ true) where
   bases i = kept i (leb (t .base) 27) ((eqb (t .base) 0 || isEnum t) ∷ []) (codes 2)
 
   bounds : (i : ℕ) → getD (arrayBoundOk t ∷ boundOk t ∷ []) i true ≡ true
+  unfolding boundsOk
   bounds i = kept i (arrayBoundOk t) (boundOk t ∷ []) (own 1)
 
   counts : (i : ℕ) → getD (memberCountOk t ∷ memberKindOk t ∷ someMemberOk t ∷ []) i true ≡ true
+  unfolding countOk
   counts i = kept i (memberCountOk t) (memberKindOk t ∷ someMemberOk t ∷ []) (own 3)
 
-  some : (isEnum t || isUnion t) ≡ true → 1 ≤ length (t .members)
+  has-some : (isEnum t || isUnion t) ≡ true → 1 ≤ length (t .members)
   unfolding someMemberOk
-  some h = leb-true 1 (length (t .members)) (asked (isEnum t || isUnion t) (leb 1 (length (t .members))) (counts 2) h)
+  has-some h = leb-true 1 (length (t .members)) (asked (isEnum t || isUnion t) (leb 1 (length (t .members))) (counts 2) h)
 
   own-good : GoodType k t
   unfolding kindOk extensibilityOk boundFlagOk arrayBoundOk boundOk elementOk memberCountOk memberKindOk
@@ -138,8 +144,8 @@ module _ (k : ℕ) (t : BookType) (e : ownOk k t ≡ true) where
         noMember =
             λ (f : within (21 ‥ 23) (t .kind) ≡ false).
             empty (t .members) (eqb-true (length (t .members)) 0 (or-swap (eqb (length (t .members)) 0) (within (21 ‥ 23) (t .kind)) (counts 1) f));
-        enum = λ (f : t .kind ≡ 21). some (or-first (isEnum t) (isUnion t) (eq-eqb (t .kind) 21 f));
-        union = λ (f : t .kind ≡ 23). some (or-second (isEnum t) (isUnion t) (eq-eqb (t .kind) 23 f));
+        enum = λ (f : t .kind ≡ 21). has-some (or-first (isEnum t) (isUnion t) (eq-eqb (t .kind) 21 f));
+        union = λ (f : t .kind ≡ 23). has-some (or-second (isEnum t) (isUnion t) (eq-eqb (t .kind) 23 f));
       }
 
 -- A MEMBER
@@ -227,7 +233,8 @@ every-at f [] d j e h = absurd (omega arith)
 every-at f (m ∷ ms) d zero e h = both-first (f m) (every f ms) e
 every-at f (m ∷ ms) d (suc j) e h = every-at f ms d j (both-second (f m) (every f ms) e) (omega arith)
 
-new-at : (before ms : List Member) (d : Member) (j : ℕ) → NewIds before ms → j < length ms → every (otherId (getD ms j d .id)) (before ++ take j ms) ≡ true
+new-at : (before ms : List Member) (d : Member) (j : ℕ) → NewIds before ms → j < length ms
+    → every (otherId (getD ms j d .id)) (before ++ take j ms) ≡ true
 new-at before [] d j x h = absurd (omega arith)
 new-at before (m ∷ ms) d zero x h = rw append-nil (x .0)
 new-at before (m ∷ ms) d (suc j) x h =
@@ -265,3 +272,26 @@ module _ (types : List BookType) (k : ℕ) (t : BookType) (e : typeOk types k t 
 pub type-indexed : (b t : List ℕ) (k : ℕ) → bookOk b ≡ true → 64 ≤ length t → k < typeCount b
     → typeOk (typesBy b (take (indexCount b (length t)) (indexed b t))) k (typeNo (typesBy b (take (indexCount b (length t)) (indexed b t))) k) ≡ true
 type-indexed b t k e room h = rw (index-good b t e room) (type-good b k e (omega (arith, length-types b)))
+
+-- a member that is found keeps what all keep
+module _ (P : Member → Type 0) where
+  found : (t : Bool) (x m : Member) (o : Option Member) → P x → (o ≡ some m → P m) → orElse (when t x) o ≡ some m → P m
+  unfolding orElse when
+  found true x m o p f e = subst P (let g : x ≡ m = cc in g) p
+  found false x m o p f e = f e
+
+  pub first-keeps : (d : ℤ) (ms : List Member) (m : Member) → Each P ms → firstWith d ms ≡ some m → P m
+  unfolding firstWith
+  first-keeps d [] m x e = absurd (let z : _≡_ {A = ℕ} 0 1 = cc in omega arith)
+  first-keeps d (n ∷ ns) m x e = found (isIn d (n .labels)) n m (firstWith d ns) (x .0) (first-keeps d ns m (x .1)) e
+
+  last : (t : Bool) (x m : Member) (o : Option Member) → P x → (o ≡ some m → P m) → orElse o (when t x) ≡ some m → P m
+  unfolding orElse when
+  last t x m (some y) p f e = f e
+  last true x m none p f e = subst P (let g : x ≡ m = cc in g) p
+  last false x m none p f e = absurd (let z : _≡_ {A = ℕ} 0 1 = cc in omega arith)
+
+  pub last-keeps : (ms : List Member) (m : Member) → Each P ms → lastDefault ms ≡ some m → P m
+  unfolding lastDefault
+  last-keeps [] m x e = absurd (let z : _≡_ {A = ℕ} 0 1 = cc in omega arith)
+  last-keeps (n ∷ ns) m x e = last (default n) n m (lastDefault ns) (x .0) (last-keeps ns m (x .1)) e

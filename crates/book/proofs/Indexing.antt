@@ -4,9 +4,9 @@ use mathlib.Core.Path.{_≡_, refl, sym, ap, _∙_}
 use mathlib.Core.List.{List, [], _∷_, _++_, append-assoc, append-nil}
 use native.Mathlib.Omega.{arith}
 use native.Mathlib.Numerals.{add-one}
-use lib.ListN.{length, getD, take, drop, set, length-set, take-append-drop}
+use lib.ListN.{length, take, drop, set, length-set, take-append-drop}
 use lib.Seq.{drop-drop, take-suc-set, drop-set-lt, take-at}
-use Rattle.book.specs.Types.{BookType, pair, pastType, typesFrom, typeCount, typesOf}
+use Rattle.book.specs.Types.{BookType, pair, pastType, typesFrom, typeCount}
 use Rattle.book.proofs.Places.{from-onward}
 use Rattle.book.specs.Places.{from, typeAt, onward, Skipped, placesFrom, indexCount, indexed, typesBy}
 
@@ -23,7 +23,8 @@ indexing-start b t n =
     let e : n - 0 ≡ n = omega arith in
     record { long = refl; upto = omega arith; places = rw e; kept = refl; near = omega arith }
 
-pub indexing-more : (b t u : List ℕ) (n i p q k : ℕ) → Indexing b t u n i p → i < n → n ≤ length t → k ≡ pair (from b p) 0 → k < 65536 → Skipped b p k q → Indexing b t (set u i p) n (i + 1) q
+pub indexing-more : (b t u : List ℕ) (n i p q k : ℕ) → Indexing b t u n i p → i < n → n ≤ length t → k ≡ pair (from b p) 0 → k < 65536 → Skipped b p k q
+    → Indexing b t (set u i p) n (i + 1) q
 unfolding placesFrom
 indexing-more b t u n i p q k x h l e z s =
     let f : n - i ≡ suc (n - suc i) = omega arith in
@@ -41,7 +42,8 @@ indexing-more b t u n i p q k x h l e z s =
     further : (u t : List ℕ) (i : ℕ) → drop i u ≡ drop i t → drop (suc i) u ≡ drop (suc i) t
     further u t i e = rw (← add-one i, ← drop-drop 1 i u, ← drop-drop 1 i t, e)
 
-pub indexing-end : (b t u : List ℕ) (n i p c y : ℕ) → Indexing b t u n i p → n ≤ i → c ≡ typeCount b → y ≡ min 64 (length t) → n ≡ min c y → u ≡ indexed b t
+pub indexing-end : (b t u : List ℕ) (n i p c y : ℕ) → Indexing b t u n i p → n ≤ i → c ≡ typeCount b
+    → y ≡ min 64 (length t) → n ≡ min c y → u ≡ indexed b t
 unfolding placesFrom
 indexing-end b t u n i p c y x h f g k =
     let e : n ≡ indexCount b (length t) = rw (f, g) at k in
@@ -50,6 +52,8 @@ indexing-end b t u n i p c y x h f g k =
     let l : take n u ≡ placesFrom b 7 n = sym (append-nil (take n u)) ∙ (rw (d, z) at (x .places)) in
     let r : drop n u ≡ drop n t = rw d at (x .kept) in
     sym (take-append-drop n u) ∙ (rw (l, r, e))
+
+pub ruleset indexing-laws = (indexing-start, indexing-more, indexing-end)
 
 -- THE PLACES SPELL THE TYPES, for any bytes
 pub places-spell : (b : List ℕ) (p n : ℕ) → typesBy b (placesFrom b p n) ≡ typesFrom n (from b p)

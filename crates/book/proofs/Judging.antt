@@ -1,18 +1,18 @@
 -- Laws of the judge's tests and walks. Assumes nothing.
-use Prim.Native.Nat.{ℕ, zero, suc, _+_, _-_, _*_, _<_, _≤_, min}
+use Prim.Native.Nat.{ℕ, zero, suc, _+_, _-_, _*_, _<_, _≤_}
 use mathlib.Core.Path.{_≡_, refl, sym, ap, _∙_}
-use mathlib.Core.Bool.{Bool, true, false, not, _&&_, _||_}
+use mathlib.Core.Bool.{Bool, true, false, not, _||_}
 use mathlib.Core.List.{List, [], _∷_, _++_}
 use native.Mathlib.Omega.{arith}
 use native.Mathlib.Numerals.{add-one}
 use lib.Dec.{eqb, ltb, leb}
 use lib.ListN.{length, take, drop}
 use borrow.Author.Tests.{not-true, not-false, lt-leb, le-leb, eq-eqb, ne-eqb, leb-true}
-use Rattle.ground.specs.Choice.{pick, both}
+use Rattle.ground.specs.Choice.{both}
 use Rattle.book.specs.declared.member.Run.{Run}
-use Rattle.book.specs.Types.{Member, BookType, noIndex, pair, memberOf, pastMember, membersOf, typeOf, pastType, typeCount, typesOf}
+use Rattle.book.specs.Types.{Member, BookType, noIndex, pair, memberOf, pastMember, membersOf, pastType, typeCount, typesOf}
 use Rattle.book.specs.Places.{from, memberAt, typeAt, Skipped, listed, later, earlier, Started, After, typesBy, indexCount, indexed}
-use Rattle.book.specs.Rules.{isEnum, isList, filled, recordLengthOk, elementOk, ownOk, every, linkOk, memberOk, membersOk, typeOk, recordOk, recordsOk, sizeOk, versionOk, typeCountOk, headOk, bookOk}
+use Rattle.book.specs.Rules.{filled, recordLengthOk, elementOk, ownOk, every, linkOk, memberOk, membersOk, typeOk, recordOk, recordsOk, sizeOk, versionOk, typeCountOk, headOk, bookOk}
 use Rattle.book.proofs.Kept.{both-second, kept}
 use Rattle.book.proofs.Indexing.{index-types, take-indexed, length-places}
 use Rattle.book.proofs.Places.{run, run-more, run-none, length-members}
@@ -23,7 +23,8 @@ module _ (b : List ℕ) (ms : Run) (room : ℕ) (whole : Bool) (inv : filled (li
   unfolding filled
   fill-bad n h e l = rw (run-more b ms h, ← e, lt-leb _ _ l) at inv
 
-  pub fill-turn : (n : ℕ) (r : Run) → 0 < ms .left → n ≡ length (memberAt b (ms .at) .labels) → 9 + 4 * n ≤ room → After b ms r → filled (listed b r) (room - (9 + 4 * n)) ≡ whole
+  pub fill-turn : (n : ℕ) (r : Run) → 0 < ms .left → n ≡ length (memberAt b (ms .at) .labels) → 9 + 4 * n ≤ room → After b ms r
+      → filled (listed b r) (room - (9 + 4 * n)) ≡ whole
   unfolding filled
   fill-turn n r h e l a = rw (a .is) (rw (run-more b ms h, ← e, le-leb _ _ l) at inv)
 
@@ -111,10 +112,17 @@ one-more zero s = refl
 one-more (suc n) s =
     ap (λ (ms : List Member). memberOf s ∷ ms) (one-more n (pastMember s) ∙ (rw (past-first n s)))
 
--- the walk over the members of a type: `done` of them keep the rules, and the run has the others
+-- the members of the type at `at`, record k, keep the rules; and the one at p does, after the first n
+abbrev allOk : List ℕ → List BookType → ℕ → ℕ → Bool
+allOk b types at k = membersOk types k (typeAt b at) [] (typeAt b at .members)
+
+abbrev thisOk : List ℕ → List BookType → ℕ → ℕ → ℕ → ℕ → Bool
+thisOk b types at k n p = memberOk types k (typeAt b at) (earlier b at n) (memberAt b p)
+
+-- the walk over those members: `done` of them keep the rules, and the run has the others
 pub record Walking (b : List ℕ) (types : List BookType) (at k done : ℕ) (ms : Run) : Type 0 where
   pub stands : from b (ms .at) ≡ pastMembers done (drop 14 (from b at))
-  pub still : membersOk types k (typeAt b at) (earlier b at done) (listed b ms) ≡ membersOk types k (typeAt b at) [] (typeAt b at .members)
+  pub still : membersOk types k (typeAt b at) (earlier b at done) (listed b ms) ≡ allOk b types at k
   pub few : done + ms .left < 65536
 
 pub walk-start : (b : List ℕ) (types : List BookType) (at k : ℕ) (ms : Run) → Started b at ms → Walking b types at k 0 ms
@@ -122,20 +130,22 @@ unfolding pastMembers earlier membersOf
 walk-start b types at k ms s = record { stands = s .bytes; still = rw (s .is); few = omega (arith, s .small) }
 
 module _ (b : List ℕ) (types : List BookType) (at k done : ℕ) (ms : Run) (x : Walking b types at k done ms) where
-  here : (t : Bool) (z : Bool) → 0 < ms .left → t ≡ memberOk types k (typeAt b at) (earlier b at done) (memberAt b (ms .at)) → t ≡ z → both z (membersOk types k (typeAt b at) (earlier b at done ++ memberAt b (ms .at) ∷ []) (later b ms)) ≡ membersOk types k (typeAt b at) [] (typeAt b at .members)
+  -- one of the run is left: it, and those after it
+  here : (t z : Bool) → 0 < ms .left → t ≡ thisOk b types at k done (ms .at) → t ≡ z
+      → both z (membersOk types k (typeAt b at) (earlier b at done ++ memberAt b (ms .at) ∷ []) (later b ms)) ≡ allOk b types at k
   unfolding membersOk
   here t z h e f =
-      let g : memberOk types k (typeAt b at) (earlier b at done) (memberAt b (ms .at)) ≡ z = sym e ∙ f in
+      let g : thisOk b types at k done (ms .at) ≡ z = sym e ∙ f in
       rw (run-more b ms h, g) at (x .still)
 
   next : earlier b at (suc done) ≡ earlier b at done ++ memberAt b (ms .at) ∷ []
   unfolding earlier
   next = one-more done (drop 14 (from b at)) ∙ (rw (x .stands))
 
-  pub walk-bad : (t : Bool) → 0 < ms .left → t ≡ memberOk types k (typeAt b at) (earlier b at done) (memberAt b (ms .at)) → not t ≡ true → false ≡ membersOk types k (typeAt b at) [] (typeAt b at .members)
+  pub walk-bad : (t : Bool) → 0 < ms .left → t ≡ thisOk b types at k done (ms .at) → not t ≡ true → false ≡ allOk b types at k
   walk-bad t h e z = here t false h e (not-true t z)
 
-  pub walk-turn : (t : Bool) (r : Run) → 0 < ms .left → t ≡ memberOk types k (typeAt b at) (earlier b at done) (memberAt b (ms .at)) → not t ≡ false → After b ms r → Walking b types at k (done + 1) r
+  pub walk-turn : (t : Bool) (r : Run) → 0 < ms .left → t ≡ thisOk b types at k done (ms .at) → not t ≡ false → After b ms r → Walking b types at k (done + 1) r
   unfolding pastMembers
   walk-turn t r h e z a =
       record {
@@ -144,7 +154,7 @@ module _ (b : List ℕ) (types : List BookType) (at k done : ℕ) (ms : Run) (x 
         few = omega (arith, x .few, a .left);
       }
 
-  pub walk-end : ms .left ≤ 0 → true ≡ membersOk types k (typeAt b at) [] (typeAt b at .members)
+  pub walk-end : ms .left ≤ 0 → true ≡ allOk b types at k
   unfolding membersOk
   walk-end h = rw (run-none b ms h) at (x .still)
 
@@ -160,7 +170,7 @@ module _ (types : List BookType) (b : List ℕ) (at k : ℕ) (l : Bool) (e : l �
   unfolding recordOk typeOk
   record-own o z f y = rw (← e, not-false l z, ← f, not-true o y)
 
-  pub record-members : (o m : Bool) → not l ≡ false → o ≡ ownOk k (typeAt b at) → not o ≡ false → m ≡ membersOk types k (typeAt b at) [] (typeAt b at .members) → m ≡ recordOk types k (from b at)
+  pub record-members : (o m : Bool) → not l ≡ false → o ≡ ownOk k (typeAt b at) → not o ≡ false → m ≡ allOk b types at k → m ≡ recordOk types k (from b at)
   unfolding recordOk typeOk
   record-members o m z f y g = rw (← e, not-false l z, ← f, not-false o y) g
 
@@ -183,7 +193,8 @@ module _ (b : List ℕ) (types : List BookType) (n k p : ℕ) (whole : Bool) (in
   pub records-bad : (t : Bool) → k < n → t ≡ recordOk types k (from b p) → not t ≡ true → false ≡ whole
   records-bad t h e z = this t false h e (not-true t z)
 
-  pub records-turn : (t : Bool) (l q : ℕ) → k < n → t ≡ recordOk types k (from b p) → not t ≡ false → l ≡ pair (from b p) 0 → Skipped b p l q → recordsOk types (k + 1) (n - (k + 1)) (from b q) ≡ whole
+  pub records-turn : (t : Bool) (l q : ℕ) → k < n → t ≡ recordOk types k (from b p) → not t ≡ false → l ≡ pair (from b p) 0 → Skipped b p l q
+      → recordsOk types (k + 1) (n - (k + 1)) (from b q) ≡ whole
   unfolding pastType
   records-turn t l q h e z f s = rw (add-one k, s .is, f) (this t true h e (not-false t z))
 
@@ -207,7 +218,8 @@ module _ (b : List ℕ) (h : Bool) (e : h ≡ headOk b) where
   unfolding bookOk
   judge-head z = rw (← e, not-true h z)
 
-  pub judge-records : (t u : List ℕ) (n : ℕ) (r : Bool) → not h ≡ false → length t ≡ 64 → n ≡ indexCount b (length t) → u ≡ indexed b t → r ≡ recordsOk (typesBy b (take (n - 0) u)) 0 (length (take (n - 0) u)) (from b 7) → r ≡ bookOk b
+  pub judge-records : (t u : List ℕ) (n : ℕ) (r : Bool) → not h ≡ false → length t ≡ 64 → n ≡ indexCount b (length t) → u ≡ indexed b t
+      → r ≡ recordsOk (typesBy b (take (n - 0) u)) 0 (length (take (n - 0) u)) (from b 7) → r ≡ bookOk b
   unfolding bookOk typesOf from
   judge-records t u n r z l f g k =
       let c : indexCount b (length t) ≡ typeCount b = omega (arith, few-types b (sym e ∙ not-false h z)) in

@@ -1,20 +1,19 @@
 -- Laws that join places in a book's bytes with its types. Assumes nothing.
-use Prim.Native.Nat.{ℕ, zero, suc, _+_, _-_, _*_, _<_, _≤_, min}
+use Prim.Native.Nat.{ℕ, zero, suc, _+_, _-_, _*_, _<_, _≤_}
 use mathlib.Core.Path.{_≡_, refl, sym, ap, _∙_}
 use mathlib.Core.Bool.{Bool, true, false}
-use mathlib.Core.List.{List, [], _∷_, _++_}
+use mathlib.Core.List.{List, [], _∷_}
 use native.Mathlib.Omega.{arith}
-use native.Mathlib.Numerals.{add-one}
 use lib.ListN.{length, getD, drop, List·getD-eq-default, drop-of-length-le, length-drop}
-use lib.Seq.{getD-drop, drop-drop, drop-nil, drop-length}
+use lib.Seq.{getD-drop, drop-drop, drop-length}
 use lib.Dec.{leb}
-use lib.IntN.{ℤ, pos}
+use lib.IntN.{pos}
 use borrow.Author.Tests.{leb-true, leb-false}
 use mir.Syntax.{w32}
 use mir.Val.{toZ}
 use Rattle.book.specs.declared.member.Run.{Run}
-use Rattle.book.specs.Types.{Member, BookType, byte, pair, quad, labelsOf, memberOf, pastMember, membersOf, typeOf, typesFrom, typesOf, typeCount, noType, typeNo}
-use Rattle.book.specs.Places.{from, memberAt, typeAt, onward, Skipped, listed, later, earlier, Started, After, typesBy, PlaceOf}
+use Rattle.book.specs.Types.{byte, pair, quad, labelsOf, memberOf, pastMember, membersOf, typeOf, typeCount, noType, typeNo}
+use Rattle.book.specs.Places.{from, memberAt, typeAt, onward, Skipped, listed, later, Started, After, typesBy, PlaceOf}
 
 -- the bytes left at p
 module _ (b : List ℕ) (p : ℕ) where

@@ -1,8 +1,8 @@
 -- Laws of the search for a label and for the last default. Assumes nothing.
-use Prim.Native.Nat.{ℕ, zero, suc, _+_, _<_, _≤_}
+use Prim.Native.Nat.{ℕ, _+_, _<_, _≤_}
 use mathlib.Core.Path.{_≡_, refl, sym, ap, _∙_}
-use mathlib.Core.Bool.{Bool, true, false, _||_}
-use mathlib.Core.List.{List, [], _∷_}
+use mathlib.Core.Bool.{Bool, true, false}
+use mathlib.Core.List.{List, _∷_}
 use mathlib.Core.Option.{Option, none, some}
 use native.Mathlib.Omega.{arith}
 use native.Mathlib.Numerals.{add-one}
@@ -62,7 +62,8 @@ module _ (d : ℤ) (b : List ℕ) (ms : Run) (whole : Option Member) (inv : firs
   unfolding firstWith when orElse told
   first-found t h e z = rw (run-more b ms h, ← e, z) at inv
 
-  pub first-turn : (t : Bool) (r : Run) → 0 < ms .left → t ≡ isIn d (memberAt b (ms .at) .labels) → t ≡ false → After b ms r → firstWith d (listed b r) ≡ whole
+  pub first-turn : (t : Bool) (r : Run) → 0 < ms .left → t ≡ isIn d (memberAt b (ms .at) .labels) → t ≡ false → After b ms r
+      → firstWith d (listed b r) ≡ whole
   unfolding firstWith when orElse
   first-turn t r h e z a = rw (a .is) (rw (run-more b ms h, ← e, z) at inv)
 
@@ -101,7 +102,8 @@ unfolding lastOr told
 last-start b at ms s = rw (s .is, or-none)
 
 module _ (b : List ℕ) (before : Found) (ms : Run) (whole : Option Member) (inv : lastOr b before (listed b ms) ≡ whole) where
-  pub last-turn : (next : Found) (r : Run) → 0 < ms .left → told b next ≡ orElse (when (default (memberAt b (ms .at))) (memberAt b (ms .at))) (told b before) → After b ms r → lastOr b next (listed b r) ≡ whole
+  pub last-turn : (next : Found) (r : Run) → 0 < ms .left → told b next ≡ orElse (when (default (memberAt b (ms .at))) (memberAt b (ms .at))) (told b before) → After b ms r
+      → lastOr b next (listed b r) ≡ whole
   unfolding lastOr lastDefault
   last-turn next r h f a =
       let i : lastOr b before (memberAt b (ms .at) ∷ later b ms) ≡ whole = rw (run-more b ms h) at inv in

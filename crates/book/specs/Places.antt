@@ -3,7 +3,7 @@ use Prim.Native.Nat.{ℕ, zero, suc, _+_, _-_, _*_, _<_, min}
 use mathlib.Core.Path.{_≡_}
 use mathlib.Core.List.{List, [], _∷_, _++_}
 use lib.ListN.{length, getD, drop}
-use Rattle.book.specs.Types.{Member, BookType, byte, pair, memberOf, pastMember, membersOf, typeOf, typeCount, typesFrom, typeNo}
+use Rattle.book.specs.Types.{Member, BookType, byte, pair, memberOf, pastMember, membersOf, typeOf, typeCount, typeNo}
 use Rattle.book.specs.declared.member.Run.{Run}
 
 -- the bytes from p on

@@ -3,7 +3,7 @@
 -- data; only the head's and the lengths' look at bytes. What no rule names is allowed.
 use Prim.Native.Nat.{ℕ, zero, suc, _+_, _-_, _*_}
 use mathlib.Core.List.{List, [], _∷_, _++_}
-use mathlib.Core.Bool.{Bool, true, false, not, _&&_, _||_}
+use mathlib.Core.Bool.{Bool, true, not, _&&_, _||_}
 use lib.ListN.{length, drop}
 use lib.Dec.{eqb, ltb, leb}
 use Rattle.ground.specs.Choice.{pick, both, _‥_, within}
@@ -82,6 +82,9 @@ arrayBoundOk t = not (isArray t) || bounded t
 unfoldable pub boundOk : BookType → Bool
 boundOk t = bounded t || eqb (t .bound) 0
 
+unfoldable pub boundsOk : BookType → Bool
+boundsOk t = arrayBoundOk t && boundOk t
+
 -- THE ELEMENT
 -- "type indexes are below their own record's; 65,535 means none. Exactly 25 and 26 have an element"
 unfoldable pub elementOk : ℕ → BookType → Bool
@@ -100,10 +103,12 @@ memberKindOk t = eqb (length (t .members)) 0 || within (21 ‥ 23) (t .kind)
 unfoldable pub someMemberOk : BookType → Bool
 someMemberOk t = not (isEnum t || isUnion t) || leb 1 (length (t .members))
 
+unfoldable pub countOk : BookType → Bool
+countOk t = memberCountOk t && memberKindOk t && someMemberOk t
+
 -- the own bytes of record k
 unfoldable pub ownOk : ℕ → BookType → Bool
-ownOk k t =
-    codesOk t && (arrayBoundOk t && boundOk t) && elementOk k t && (memberCountOk t && memberKindOk t && someMemberOk t)
+ownOk k t = codesOk t && boundsOk t && elementOk k t && countOk t
 
 -- A MEMBER, of type t, record k, with those before it
 -- "Ids differ within a type."

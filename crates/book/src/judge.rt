@@ -3,10 +3,10 @@ ghost use mathlib.Core.Path.{_≡_};
 ghost use mathlib.Core.Bool.{_&&_};
 ghost use mathlib.Core.List.{[]};
 ghost use lib.ListN.{length};
-ghost use Rattle.book.specs.Types.{memberOf, typeOf, noIndex};
 ghost use Rattle.book.specs.Places.{from, memberAt, typeAt, listed, earlier, typesBy};
-ghost use Rattle.book.specs.Rules.{headOk, filled, recordLengthOk, codesOk, arrayBoundOk, boundOk, elementOk, memberCountOk, memberKindOk, someMemberOk, ownOk};
-ghost use Rattle.book.specs.Rules.{every, otherId, idOk, firstIdOk, linkOk, firstKindOk, flagsOk, firstDefaultOk, labelCountOk, firstLabelOk, memberOk, membersOk, recordOk, recordsOk, bookOk};
+ghost use Rattle.book.specs.Rules.{headOk, filled, recordLengthOk, codesOk, boundsOk, elementOk, countOk, ownOk};
+ghost use Rattle.book.specs.Rules.{every, otherId, idOk, firstIdOk, linkOk, firstKindOk, flagsOk, firstDefaultOk, labelCountOk, firstLabelOk};
+ghost use Rattle.book.specs.Rules.{memberOk, membersOk, recordOk, recordsOk, bookOk};
 use crate::bytes::byte_at;
 use crate::bytes::left_at;
 use crate::bytes::pair_at;
@@ -82,7 +82,7 @@ fn codes_ok(b: &[u8], at: usize) -> bool
 }
 
 fn bound_ok(b: &[u8], at: usize) -> bool
-    ensures { λ r. ⌜ r ≡ (arrayBoundOk (typeAt (now (b .entry)) at) && boundOk (typeAt (now (b .entry)) at)) ⌝ }
+    ensures { λ r. ⌜ r ≡ boundsOk (typeAt (now (b .entry)) at) ⌝ }
 {
     let bounded = types::is_bounded(b, at);
     (!(types::kind(b, at) == ARRAY) | bounded) & (bounded | (types::bound(b, at) == 0))
@@ -100,7 +100,7 @@ fn element_ok(b: &[u8], at: usize, k: usize) -> bool
 }
 
 fn count_ok(b: &[u8], at: usize) -> bool
-    ensures { λ r. ⌜ r ≡ (memberCountOk (typeAt (now (b .entry)) at) && memberKindOk (typeAt (now (b .entry)) at) && someMemberOk (typeAt (now (b .entry)) at)) ⌝ }
+    ensures { λ r. ⌜ r ≡ countOk (typeAt (now (b .entry)) at) ⌝ }
 {
     let kind = types::kind(b, at);
     let n = member::member_count(b, at);

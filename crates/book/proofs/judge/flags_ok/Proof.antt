@@ -2,20 +2,13 @@ use Rattle.book.specs.Rules.{flagsOk, firstDefaultOk}
 use borrow.Author.Needs.{needs}
 use Rattle.book.proofs.judge.flags_ok.Statement.{statement}
 use Rattle.book.proofs.judge.flags_ok.Tie as tie
-use Rattle.book.proofs.judge.flags_ok.Reads as reads
-use Rattle.book.proofs.judge.flags_ok.Lts as lts
-use Rattle.book.proofs.member.flags.Reads as flags-reads
-use Rattle.book.proofs.member.is_default.Reads as is-default-reads
 
--- src/judge.rt:166:6
 flags-requires : tie.Need-flags-requires
 flags-requires c κs = search needs
 
--- src/judge.rt:166:45
 is-default-requires : tie.Need-is-default-requires
 is-default-requires c κs = search needs
 
--- src/judge.rt:163:1
 returns : tie.Need-returns
 unfolding flagsOk firstDefaultOk
 returns c = rw (c .is-default .ensures, c .before .flags .ensures .0)

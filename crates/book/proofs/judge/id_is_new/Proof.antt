@@ -1,3 +1,4 @@
+-- `book::judge::id_is_new`. The invariant: the rule of the run is the rule of all.
 use mathlib.Core.Path.{_≡_}
 use borrow.Author.Needs.{needs}
 use Rattle.book.specs.Rules.{every, otherId}
@@ -5,10 +6,6 @@ use Rattle.book.specs.Places.{listed}
 use Rattle.book.proofs.Judging.{every-laws}
 use Rattle.book.proofs.judge.id_is_new.Statement.{statement}
 use Rattle.book.proofs.judge.id_is_new.Tie as tie
-use Rattle.book.proofs.judge.id_is_new.Reads as reads
-use Rattle.book.proofs.judge.id_is_new.Lts as lts
-use Rattle.book.proofs.judge.other_id.Reads as other-id-reads
-use Rattle.book.proofs.member.after.Reads as after-reads
 
 abbrev Inv-loop : tie.InvT-loop
 Inv-loop b id rest₀ rest = every (otherId id) (listed b rest) ≡ every (otherId id) (listed b rest₀)
@@ -16,31 +13,24 @@ Inv-loop b id rest₀ rest = every (otherId id) (listed b rest) ≡ every (other
 abbrev μ-loop : tie.MeasureT-loop
 μ-loop b id rest₀ rest = rest .left
 
--- src/judge.rt:123:5
 loop-holds : tie.Need-loop-holds Inv-loop μ-loop
 loop-holds c = search (needs, every-laws)
 
--- src/judge.rt:125:13
 other-id-requires : tie.Need-other-id-requires Inv-loop μ-loop
 other-id-requires c κs = search (needs, every-laws)
 
--- src/judge.rt:126:13
 returns : tie.Need-returns Inv-loop μ-loop
 returns c = search (needs, every-laws)
 
--- src/judge.rt:128:9
 after-requires : tie.Need-after-requires Inv-loop μ-loop
 after-requires c κs = search (needs, every-laws)
 
--- src/judge.rt:123:5
 loop-less : tie.Need-loop-less Inv-loop μ-loop
 loop-less c = search (needs, every-laws)
 
--- src/judge.rt:123:5
 loop-again : tie.Need-loop-again Inv-loop μ-loop
 loop-again c = search (needs, every-laws)
 
--- src/judge.rt:119:1
 returns-2 : tie.Need-returns-2 Inv-loop μ-loop
 returns-2 c = search (needs, every-laws)
 

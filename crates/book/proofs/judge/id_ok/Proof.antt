@@ -3,25 +3,16 @@ use Rattle.book.proofs.Judging.{before-is}
 use borrow.Author.Needs.{needs}
 use Rattle.book.proofs.judge.id_ok.Statement.{statement}
 use Rattle.book.proofs.judge.id_ok.Tie as tie
-use Rattle.book.proofs.judge.id_ok.Reads as reads
-use Rattle.book.proofs.judge.id_ok.Lts as lts
-use Rattle.book.proofs.bytes.skip.Reads as skip-reads
-use Rattle.book.proofs.judge.id_is_new.Reads as id-is-new-reads
-use Rattle.book.proofs.member.id.Reads as id-reads
 
--- src/judge.rt:137:9
 id-requires : tie.Need-id-requires
 id-requires c κs = search needs
 
--- src/judge.rt:138:9
 skip-requires : tie.Need-skip-requires
 skip-requires c κs = search needs
 
--- src/judge.rt:143:5
 id-is-new-requires : tie.Need-id-is-new-requires
 id-is-new-requires c κs = search needs
 
--- src/judge.rt:134:1
 returns : tie.Need-returns
 unfolding idOk firstIdOk
 returns c = rw (c .id-is-new .ensures, before-is _ _ _ _ (c .before .skip .ensures), c .before .before .id .ensures)

@@ -2,15 +2,10 @@ use Rattle.book.specs.Rules.{labelCountOk, firstLabelOk}
 use borrow.Author.Needs.{needs}
 use Rattle.book.proofs.judge.labels_ok.Statement.{statement}
 use Rattle.book.proofs.judge.labels_ok.Tie as tie
-use Rattle.book.proofs.judge.labels_ok.Reads as reads
-use Rattle.book.proofs.judge.labels_ok.Lts as lts
-use Rattle.book.proofs.member.label_count.Reads as label-count-reads
 
--- src/judge.rt:172:9
 label-count-requires : tie.Need-label-count-requires
 label-count-requires c κs = search needs
 
--- src/judge.rt:169:1
 returns : tie.Need-returns
 unfolding labelCountOk firstLabelOk
 returns c = rw (c .label-count .ensures .0)

@@ -1,3 +1,4 @@
+-- `book::judge::members_fill`. The invariant: the run fills what is left exactly where all members fill all.
 use mathlib.Core.Path.{_≡_}
 use borrow.Author.Needs.{needs}
 use Rattle.book.specs.Rules.{filled}
@@ -5,10 +6,6 @@ use Rattle.book.specs.Places.{listed}
 use Rattle.book.proofs.Judging.{fill-laws}
 use Rattle.book.proofs.judge.members_fill.Statement.{statement}
 use Rattle.book.proofs.judge.members_fill.Tie as tie
-use Rattle.book.proofs.judge.members_fill.Reads as reads
-use Rattle.book.proofs.judge.members_fill.Lts as lts
-use Rattle.book.proofs.member.after.Reads as after-reads
-use Rattle.book.proofs.member.label_count.Reads as label-count-reads
 
 abbrev Inv-loop : tie.InvT-loop
 Inv-loop b room rest₀ left₀ rest left = filled (listed b rest) left ≡ filled (listed b rest₀) left₀
@@ -16,39 +13,30 @@ Inv-loop b room rest₀ left₀ rest left = filled (listed b rest) left ≡ fill
 abbrev μ-loop : tie.MeasureT-loop
 μ-loop b room rest₀ left₀ rest left = rest .left
 
--- src/judge.rt:43:5
 loop-holds : tie.Need-loop-holds Inv-loop μ-loop
 loop-holds c = search (needs, fill-laws)
 
--- src/judge.rt:45:28
 label-count-requires : tie.Need-label-count-requires Inv-loop μ-loop
 label-count-requires c κs = search (needs, fill-laws)
 
--- src/judge.rt:45:24
 mul-size : tie.Need-mul-size Inv-loop μ-loop
 mul-size c = search (needs, fill-laws)
 
--- src/judge.rt:45:20
 add-size : tie.Need-add-size Inv-loop μ-loop
 add-size c = search (needs, fill-laws)
 
--- src/judge.rt:47:13
 returns : tie.Need-returns Inv-loop μ-loop
 returns c = search (needs, fill-laws)
 
--- src/judge.rt:50:9
 after-requires : tie.Need-after-requires Inv-loop μ-loop
 after-requires c κs = search (needs, fill-laws)
 
--- src/judge.rt:43:5
 loop-less : tie.Need-loop-less Inv-loop μ-loop
 loop-less c = search (needs, fill-laws)
 
--- src/judge.rt:43:5
 loop-again : tie.Need-loop-again Inv-loop μ-loop
 loop-again c = search (needs, fill-laws)
 
--- src/judge.rt:38:1
 returns-2 : tie.Need-returns-2 Inv-loop μ-loop
 returns-2 c = search (needs, fill-laws)
 

@@ -2,15 +2,10 @@ use Rattle.book.specs.Rules.{otherId}
 use borrow.Author.Needs.{needs}
 use Rattle.book.proofs.judge.other_id.Statement.{statement}
 use Rattle.book.proofs.judge.other_id.Tie as tie
-use Rattle.book.proofs.judge.other_id.Reads as reads
-use Rattle.book.proofs.judge.other_id.Lts as lts
-use Rattle.book.proofs.member.id.Reads as id-reads
 
--- src/judge.rt:115:7
 id-requires : tie.Need-id-requires
 id-requires c κs = search needs
 
--- src/judge.rt:112:1
 returns : tie.Need-returns
 unfolding otherId
 returns c = rw (c .id .ensures)

@@ -1,3 +1,4 @@
+-- `book::labels::first_with`. The invariant: the first of the run that holds the label is the first of all.
 use borrow.Author.Needs.{needs}
 use Rattle.book.proofs.Search.{first-bits, first-laws}
 use mathlib.Core.Path.{_≡_}
@@ -7,11 +8,6 @@ use Rattle.book.specs.Places.{listed, typeAt}
 use Rattle.book.specs.Labels.{firstWith}
 use Rattle.book.proofs.labels.first_with.Statement.{statement}
 use Rattle.book.proofs.labels.first_with.Tie as tie
-use Rattle.book.proofs.labels.first_with.Reads as reads
-use Rattle.book.proofs.labels.first_with.Lts as lts
-use Rattle.book.proofs.labels.holds.Reads as holds-reads
-use Rattle.book.proofs.member.after.Reads as after-reads
-use Rattle.book.proofs.member.members.Reads as members-reads
 
 abbrev Inv-loop : tie.InvT-loop
 Inv-loop b at d ms₀ ms = firstWith (toZ w32 d) (listed b ms) ≡ firstWith (toZ w32 d) (typeAt b at .members)
@@ -19,35 +15,27 @@ Inv-loop b at d ms₀ ms = firstWith (toZ w32 d) (listed b ms) ≡ firstWith (to
 abbrev μ-loop : tie.MeasureT-loop
 μ-loop b at d ms₀ ms = ms .left
 
--- src/labels.rt:47:9
 members-requires : tie.Need-members-requires Inv-loop μ-loop
 members-requires c κs = search (needs, first-laws)
 
--- src/labels.rt:48:5
 loop-holds : tie.Need-loop-holds Inv-loop μ-loop
 loop-holds c = search (needs, first-laws)
 
--- src/labels.rt:50:12
 holds-requires : tie.Need-holds-requires Inv-loop μ-loop
 holds-requires c κs = search (needs, first-laws)
 
--- src/labels.rt:51:13
 returns : tie.Need-returns Inv-loop μ-loop
 returns c = search (needs, first-bits, first-laws)
 
--- src/labels.rt:53:9
 after-requires : tie.Need-after-requires Inv-loop μ-loop
 after-requires c κs = search (needs, first-laws)
 
--- src/labels.rt:48:5
 loop-less : tie.Need-loop-less Inv-loop μ-loop
 loop-less c = search (needs, first-laws)
 
--- src/labels.rt:48:5
 loop-again : tie.Need-loop-again Inv-loop μ-loop
 loop-again c = search (needs, first-laws)
 
--- src/labels.rt:44:1
 returns-2 : tie.Need-returns-2 Inv-loop μ-loop
 returns-2 c = search (needs, first-bits, first-laws)
 

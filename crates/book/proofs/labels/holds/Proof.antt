@@ -1,3 +1,4 @@
+-- `book::labels::holds`. The invariant: d is among the labels from i on exactly where it is among all.
 use borrow.Author.Needs.{needs}
 use Rattle.book.proofs.Search.{past, in-bits, in-start, in-found, in-turn, in-none}
 use Prim.Native.Nat.{_-_}
@@ -8,10 +9,6 @@ use Rattle.book.specs.Places.{memberAt}
 use Rattle.book.specs.Labels.{isIn}
 use Rattle.book.proofs.labels.holds.Statement.{statement}
 use Rattle.book.proofs.labels.holds.Tie as tie
-use Rattle.book.proofs.labels.holds.Reads as reads
-use Rattle.book.proofs.labels.holds.Lts as lts
-use Rattle.book.proofs.labels.label_is.Reads as label-is-reads
-use Rattle.book.proofs.member.label_count.Reads as label-count-reads
 
 abbrev Inv-loop : tie.InvT-loop
 Inv-loop b p d n i₀ i = isIn (toZ w32 d) (past i (memberAt b p .labels)) ≡ isIn (toZ w32 d) (memberAt b p .labels)
@@ -19,35 +16,27 @@ Inv-loop b p d n i₀ i = isIn (toZ w32 d) (past i (memberAt b p .labels)) ≡ i
 abbrev μ-loop : tie.MeasureT-loop
 μ-loop b p d n i₀ i = n - i
 
--- src/labels.rt:32:9
 label-count-requires : tie.Need-label-count-requires Inv-loop μ-loop
 label-count-requires c κs = search (needs, in-start, in-turn)
 
--- src/labels.rt:34:5
 loop-holds : tie.Need-loop-holds Inv-loop μ-loop
 loop-holds c = search (needs, in-start, in-turn)
 
--- src/labels.rt:35:12
 label-is-requires : tie.Need-label-is-requires Inv-loop μ-loop
 label-is-requires c κs = search (needs, in-start, in-turn)
 
--- src/labels.rt:36:13
 returns : tie.Need-returns Inv-loop μ-loop
 returns c = search (needs, in-bits, in-found)
 
--- src/labels.rt:38:9
 add-i : tie.Need-add-i Inv-loop μ-loop
 add-i c = search (needs, in-start, in-turn)
 
--- src/labels.rt:34:5
 loop-less : tie.Need-loop-less Inv-loop μ-loop
 loop-less c = search (needs, in-start, in-turn)
 
--- src/labels.rt:34:5
 loop-again : tie.Need-loop-again Inv-loop μ-loop
 loop-again c = search (needs, in-start, in-turn)
 
--- src/labels.rt:29:1
 returns-2 : tie.Need-returns-2 Inv-loop μ-loop
 returns-2 c = search (needs, in-bits, in-none)
 

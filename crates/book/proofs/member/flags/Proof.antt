@@ -2,15 +2,10 @@ use Rattle.book.specs.Types.{memberOf}
 use borrow.Author.Needs.{needs}
 use Rattle.book.proofs.member.flags.Statement.{statement}
 use Rattle.book.proofs.member.flags.Tie as tie
-use Rattle.book.proofs.member.flags.Reads as reads
-use Rattle.book.proofs.member.flags.Lts as lts
-use Rattle.book.proofs.bytes.byte_at.Reads as byte-at-reads
 
--- src/member.rt:67:5
 byte-at-requires : tie.Need-byte-at-requires
 byte-at-requires c κs = search needs
 
--- src/member.rt:64:1
 returns : tie.Need-returns
 unfolding memberOf
 returns c = search needs

@@ -2,15 +2,10 @@ use Rattle.book.proofs.Places.{label-count-is}
 use borrow.Author.Needs.{needs}
 use Rattle.book.proofs.member.label_count.Statement.{statement}
 use Rattle.book.proofs.member.label_count.Tie as tie
-use Rattle.book.proofs.member.label_count.Reads as reads
-use Rattle.book.proofs.member.label_count.Lts as lts
-use Rattle.book.proofs.bytes.byte_at.Reads as byte-at-reads
 
--- src/member.rt:91:5
 byte-at-requires : tie.Need-byte-at-requires
 byte-at-requires c κs = search needs
 
--- src/member.rt:88:1
 returns : tie.Need-returns
 returns c = search (needs, label-count-is)
 

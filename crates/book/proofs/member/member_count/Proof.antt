@@ -2,15 +2,10 @@ use Rattle.book.proofs.Places.{member-count-is}
 use borrow.Author.Needs.{needs}
 use Rattle.book.proofs.member.member_count.Statement.{statement}
 use Rattle.book.proofs.member.member_count.Tie as tie
-use Rattle.book.proofs.member.member_count.Reads as reads
-use Rattle.book.proofs.member.member_count.Lts as lts
-use Rattle.book.proofs.bytes.pair_at.Reads as pair-at-reads
 
--- src/member.rt:23:5
 pair-at-requires : tie.Need-pair-at-requires
 pair-at-requires c κs = search needs
 
--- src/member.rt:20:1
 returns : tie.Need-returns
 returns c = search (needs, member-count-is)
 

@@ -2,15 +2,10 @@ use Rattle.book.specs.Types.{memberOf}
 use borrow.Author.Needs.{needs}
 use Rattle.book.proofs.member.type_index.Statement.{statement}
 use Rattle.book.proofs.member.type_index.Tie as tie
-use Rattle.book.proofs.member.type_index.Reads as reads
-use Rattle.book.proofs.member.type_index.Lts as lts
-use Rattle.book.proofs.bytes.pair_at.Reads as pair-at-reads
 
--- src/member.rt:61:5
 pair-at-requires : tie.Need-pair-at-requires
 pair-at-requires c κs = search needs
 
--- src/member.rt:58:1
 returns : tie.Need-returns
 unfolding memberOf
 returns c = search needs

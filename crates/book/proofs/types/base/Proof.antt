@@ -2,15 +2,10 @@ use Rattle.book.specs.Types.{typeOf}
 use borrow.Author.Needs.{needs}
 use Rattle.book.proofs.types.base.Statement.{statement}
 use Rattle.book.proofs.types.base.Tie as tie
-use Rattle.book.proofs.types.base.Reads as reads
-use Rattle.book.proofs.types.base.Lts as lts
-use Rattle.book.proofs.bytes.byte_at.Reads as byte-at-reads
 
--- src/types.rt:32:5
 byte-at-requires : tie.Need-byte-at-requires
 byte-at-requires c κs = search needs
 
--- src/types.rt:29:1
 returns : tie.Need-returns
 unfolding typeOf
 returns c = search needs

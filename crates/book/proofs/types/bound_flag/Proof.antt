@@ -2,15 +2,10 @@ use Rattle.book.specs.Types.{typeOf}
 use borrow.Author.Needs.{needs}
 use Rattle.book.proofs.types.bound_flag.Statement.{statement}
 use Rattle.book.proofs.types.bound_flag.Tie as tie
-use Rattle.book.proofs.types.bound_flag.Reads as reads
-use Rattle.book.proofs.types.bound_flag.Lts as lts
-use Rattle.book.proofs.bytes.byte_at.Reads as byte-at-reads
 
--- src/types.rt:38:5
 byte-at-requires : tie.Need-byte-at-requires
 byte-at-requires c κs = search needs
 
--- src/types.rt:35:1
 returns : tie.Need-returns
 unfolding typeOf
 returns c = search needs

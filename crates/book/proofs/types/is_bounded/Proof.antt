@@ -2,15 +2,10 @@ use Rattle.book.specs.Types.{bounded}
 use borrow.Author.Needs.{needs}
 use Rattle.book.proofs.types.is_bounded.Statement.{statement}
 use Rattle.book.proofs.types.is_bounded.Tie as tie
-use Rattle.book.proofs.types.is_bounded.Reads as reads
-use Rattle.book.proofs.types.is_bounded.Lts as lts
-use Rattle.book.proofs.types.bound_flag.Reads as bound-flag-reads
 
--- src/types.rt:44:5
 bound-flag-requires : tie.Need-bound-flag-requires
 bound-flag-requires c κs = search needs
 
--- src/types.rt:41:1
 returns : tie.Need-returns
 unfolding bounded
 returns c = rw (c .bound-flag .ensures .0)

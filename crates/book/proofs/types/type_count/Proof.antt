@@ -2,15 +2,10 @@ use Rattle.book.proofs.Places.{count-is}
 use borrow.Author.Needs.{needs}
 use Rattle.book.proofs.types.type_count.Statement.{statement}
 use Rattle.book.proofs.types.type_count.Tie as tie
-use Rattle.book.proofs.types.type_count.Reads as reads
-use Rattle.book.proofs.types.type_count.Lts as lts
-use Rattle.book.proofs.bytes.pair_at.Reads as pair-at-reads
 
--- src/types.rt:14:5
 pair-at-requires : tie.Need-pair-at-requires
 pair-at-requires c κs = search needs
 
--- src/types.rt:11:1
 returns : tie.Need-returns
 returns c = search (needs, count-is)
 
