@@ -1,0 +1,205 @@
+//! Safe calls of Sinotayam: a message of DDS, read by its type book into value rows. The library under it is proved; this crate only passes
+//! slices on and names what comes back.
+
+mod ffi {
+    extern "C" {
+        pub fn sinotayam_read(
+            book: *const u8,
+            book_len: usize,
+            root: u16,
+            message: *const u8,
+            message_len: usize,
+            table: *mut u64,
+            words: usize,
+        ) -> u64;
+        pub fn sinotayam_prepare(book: *const u8, book_len: usize, index: *mut u32, index_len: usize) -> u8;
+        pub fn sinotayam_read_prepared(
+            book: *const u8,
+            book_len: usize,
+            index: *const u32,
+            index_len: usize,
+            root: u16,
+            message: *const u8,
+            message_len: usize,
+            table: *mut u64,
+            words: usize,
+        ) -> u64;
+        pub fn sinotayam_text(
+            table: *const u64,
+            words: usize,
+            row: usize,
+            data: *const u8,
+            data_len: usize,
+        ) -> u8;
+    }
+}
+
+/// The words of a row in the table.
+pub const ROW: usize = 4;
+
+/// The words in which the index of any book has room.
+const INDEX: usize = 65;
+
+/// Why there are no rows: the numbers that are given back, but for 0.
+#[derive(Clone, Copy, Debug, PartialEq, Eq)]
+#[repr(u8)]
+pub enum Refusal {
+    NotEnoughData = 1,
+    InvalidData = 2,
+    InvalidType = 3,
+    PidNotFound = 4,
+    BadBook = 8,
+    BadRoot = 9,
+    TooLong = 10,
+    Unsupported = 11,
+    TooDeep = 12,
+    NoRoom = 13,
+    NoDiscriminator = 14,
+    NotText = 15,
+    Unfit = 16,
+}
+
+impl Refusal {
+    /// The refusal with a number; none for 0 and for a number that is not in the table.
+    pub fn of_number(number: u8) -> Option<Refusal> {
+        use Refusal::*;
+        [
+            NotEnoughData, InvalidData, InvalidType, PidNotFound, BadBook, BadRoot, TooLong,
+            Unsupported, TooDeep, NoRoom, NoDiscriminator, NotText, Unfit,
+        ]
+        .into_iter()
+        .find(|k| *k as u8 == number)
+    }
+}
+
+impl std::fmt::Display for Refusal {
+    fn fmt(&self, f: &mut std::fmt::Formatter<'_>) -> std::fmt::Result {
+        write!(f, "{:?} ({})", self, *self as u8)
+    }
+}
+
+impl std::error::Error for Refusal {}
+
+/// One value: document 01's row.
+#[derive(Clone, Copy, Debug, PartialEq, Eq)]
+pub struct Row {
+    pub kind: u64,
+    pub id: u64,
+    pub a: u64,
+    pub b: u64,
+}
+
+/// The rows of a finished reading, in the lent table.
+#[derive(Clone, Copy, Debug)]
+pub struct Rows<'t> {
+    words: &'t [u64],
+}
+
+impl<'t> Rows<'t> {
+    pub fn len(&self) -> usize {
+        self.words.len() / ROW
+    }
+
+    pub fn is_empty(&self) -> bool {
+        self.words.is_empty()
+    }
+
+    pub fn get(&self, row: usize) -> Option<Row> {
+        let w = self.words.chunks_exact(ROW).nth(row)?;
+        Some(Row { kind: w[0], id: w[1], a: w[2], b: w[3] })
+    }
+
+    pub fn iter(&self) -> impl Iterator<Item = Row> + 't {
+        let words = self.words;
+        words.chunks_exact(ROW).map(|w| Row { kind: w[0], id: w[1], a: w[2], b: w[3] })
+    }
+
+    /// The bytes of a text row, in the data that the message was read from; none where the row is no text.
+    pub fn bytes<'d>(&self, row: usize, data: &'d [u8]) -> Option<&'d [u8]> {
+        // The pointers and lengths are those of live slices, and nothing is written.
+        let number = unsafe {
+            ffi::sinotayam_text(self.words.as_ptr(), self.words.len(), row, data.as_ptr(), data.len())
+        };
+        let r = if number == 0 { self.get(row)? } else { return None };
+        let start = r.a as usize;
+        let size = if r.kind == 17 { 2 * r.b as usize } else { r.b as usize };
+        data.get(start..start + size)
+    }
+
+    /// The text of a row of kind 16.
+    pub fn text<'d>(&self, row: usize, data: &'d [u8]) -> Option<&'d str> {
+        match self.get(row)?.kind {
+            16 => std::str::from_utf8(self.bytes(row, data)?).ok(),
+            _ => None,
+        }
+    }
+}
+
+/// The data of a message: what follows its four bytes of header.
+pub fn data(message: &[u8]) -> &[u8] {
+    message.get(4..).unwrap_or(&[])
+}
+
+fn told(word: u64, table: &mut [u64]) -> Result<Rows<'_>, Refusal> {
+    match Refusal::of_number(word as u8) {
+        Some(refusal) => Err(refusal),
+        None => Ok(Rows { words: &table[..(word >> 8) as usize * ROW] }),
+    }
+}
+
+/// Reads a message of the book's type `root` into the lent table.
+pub fn read<'t>(book: &[u8], root: u16, message: &[u8], table: &'t mut [u64]) -> Result<Rows<'t>, Refusal> {
+    // The pointers and lengths are those of live slices, and only the table is written, which nothing else borrows.
+    let word = unsafe {
+        ffi::sinotayam_read(
+            book.as_ptr(),
+            book.len(),
+            root,
+            message.as_ptr(),
+            message.len(),
+            table.as_mut_ptr(),
+            table.len(),
+        )
+    };
+    told(word, table)
+}
+
+/// A book that was judged once, to read many messages with.
+#[derive(Clone, Debug)]
+pub struct Prepared<'b> {
+    book: &'b [u8],
+    index: [u32; INDEX],
+}
+
+impl<'b> Prepared<'b> {
+    pub fn new(book: &'b [u8]) -> Result<Prepared<'b>, Refusal> {
+        let mut index = [0u32; INDEX];
+        // As in `read`; only the index is written.
+        let number = unsafe {
+            ffi::sinotayam_prepare(book.as_ptr(), book.len(), index.as_mut_ptr(), index.len())
+        };
+        match Refusal::of_number(number) {
+            Some(refusal) => Err(refusal),
+            None => Ok(Prepared { book, index }),
+        }
+    }
+
+    /// The same answer as `read` with the book, which is not judged again.
+    pub fn read<'t>(&self, root: u16, message: &[u8], table: &'t mut [u64]) -> Result<Rows<'t>, Refusal> {
+        // As in `read`.
+        let word = unsafe {
+            ffi::sinotayam_read_prepared(
+                self.book.as_ptr(),
+                self.book.len(),
+                self.index.as_ptr(),
+                self.index.len(),
+                root,
+                message.as_ptr(),
+                message.len(),
+                table.as_mut_ptr(),
+                table.len(),
+            )
+        };
+        told(word, table)
+    }
+}

@@ -1,0 +1,76 @@
+//! Bench examples of document 01, through the safe calls.
+use sinotayam::{data, read, Prepared, Refusal, Row};
+
+const BOOK: &[u8] = b"\x00\x00\x00\x2c\x01\x00\x02\x00\x0e\x04\x00\x00\x00\x00\x00\x00\x00\xff\xff\x00\x00\
+    \x00\x17\x16\x00\x00\x00\x00\x00\x00\x00\xff\xff\x00\x01\x00\x00\x00\x07\x00\x00\x00\x01\x00";
+const MESSAGE: &[u8] = b"\x00\x01\x00\x00\xfe\xff\xff\xff";
+
+// Mutable, 1: STRING8.
+const TEXT_BOOK: &[u8] = b"\x00\x00\x00\x2c\x01\x00\x02\x00\x0e\x10\x00\x00\x00\x00\x00\x00\x00\xff\xff\x00\x00\
+    \x00\x17\x16\x02\x00\x00\x00\x00\x00\x00\xff\xff\x00\x01\x00\x00\x00\x01\x00\x00\x00\x01\x00";
+const TEXT: &[u8] = b"\x00\x0b\x00\x00\x0a\x00\x00\x00\x01\x00\x00\x50\x02\x00\x00\x00\x41\x00";
+
+fn rows() -> Vec<Row> {
+    vec![
+        Row { kind: 22, id: 0, a: 1, b: 1 },
+        Row { kind: 4, id: 7, a: -2i64 as u64, b: 0 },
+    ]
+}
+
+#[test]
+fn example_1() {
+    let mut table = [7u64; 11];
+    let got = read(BOOK, 1, MESSAGE, &mut table).unwrap();
+    assert_eq!(got.len(), 2);
+    assert_eq!(got.iter().collect::<Vec<_>>(), rows());
+    assert_eq!(got.get(2), None);
+    assert_eq!(table[8..], [0, 0, 0]);
+}
+
+#[test]
+fn example_3_has_room_in_8_words() {
+    let mut table = [7u64; 7];
+    assert_eq!(read(BOOK, 1, MESSAGE, &mut table).unwrap_err(), Refusal::NoRoom);
+    assert_eq!(table, [0; 7]);
+    assert!(read(BOOK, 1, MESSAGE, &mut [0u64; 8]).is_ok());
+}
+
+#[test]
+fn example_12_is_a_text() {
+    let mut table = [0u64; 64];
+    let got = read(TEXT_BOOK, 1, TEXT, &mut table).unwrap();
+    assert_eq!(got.text(1, data(TEXT)), Some("A"));
+    assert_eq!(got.text(0, data(TEXT)), None);
+    assert_eq!(got.text(2, data(TEXT)), None);
+    assert_eq!(got.bytes(1, &data(TEXT)[..12]), None);
+}
+
+#[test]
+fn refusals_in_order() {
+    let mut table = [7u64; 9];
+    let mut of = |book: &[u8], root, message: &[u8]| read(book, root, message, &mut table).unwrap_err();
+    assert_eq!(of(&BOOK[1..], 2, &[]), Refusal::BadBook);
+    assert_eq!(of(&[], 0, MESSAGE), Refusal::BadBook);
+    assert_eq!(of(BOOK, 2, &[0; 65537]), Refusal::BadRoot);
+    assert_eq!(of(BOOK, 1, &[0; 65537]), Refusal::TooLong);
+    assert_eq!(of(BOOK, 1, &MESSAGE[..3]), Refusal::NotEnoughData);
+    assert_eq!(of(BOOK, 1, b"\x00\x04\x00\x00"), Refusal::InvalidData);
+    assert_eq!(of(BOOK, 0, MESSAGE), Refusal::InvalidType);
+    assert_eq!(table, [0; 9]);
+}
+
+#[test]
+fn prepared_reads_the_same() {
+    let mut table = [0u64; 64];
+    let book = Prepared::new(BOOK).unwrap();
+    for _ in 0..3 {
+        assert_eq!(book.read(1, MESSAGE, &mut table).unwrap().iter().collect::<Vec<_>>(), rows());
+    }
+    assert_eq!(book.read(2, MESSAGE, &mut table).unwrap_err(), Refusal::BadRoot);
+    assert_eq!(Prepared::new(&BOOK[1..]).unwrap_err(), Refusal::BadBook);
+}
+
+#[test]
+fn an_empty_table_has_no_room() {
+    assert_eq!(read(BOOK, 1, MESSAGE, &mut []).unwrap_err(), Refusal::NoRoom);
+}

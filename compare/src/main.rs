@@ -1,0 +1,218 @@
+// compare: the port beside the crate's own text, on random books and messages. See README.md.
+extern crate alloc;
+extern crate self as dust_dds;
+extern crate self as tracing;
+
+/// Stand-in for tracing's macro: says nothing.
+#[macro_export]
+macro_rules! debug {
+    ($($t:tt)*) => {};
+}
+
+mod book;
+mod books;
+mod broken;
+mod encode;
+mod gen;
+mod memory;
+mod oracle;
+mod port;
+mod rng;
+mod rules;
+mod shrink;
+mod tally;
+mod written;
+#[allow(dead_code, unused)]
+pub mod xtypes;
+
+use gen::Case;
+use oracle::{Answer, Oracle, Row};
+use port::{Batch, Port, Reply};
+use rules::Reading;
+use tally::Tally;
+
+/// The most rows of a table.
+const ROWS: usize = 100_000;
+
+/// A case's reading by the rules.
+pub fn by_rules(case: &Case) -> Reading {
+    if case.types.is_empty() {
+        return rules::refused(8);
+    }
+    rules::read(&case.types, case.root, &case.message, ROWS)
+}
+
+/// The words of a table that has room for a reading, and some to spare.
+pub fn words_for(r: &Reading) -> usize {
+    4 * ROWS.min(r.needed + 20) + 3
+}
+
+/// Where the port differs from the rules or from the crate, in words.
+pub fn differs(case: &Case, rules: &Reading, got: &Reply) -> Option<String> {
+    if !got.cleared {
+        return Some("the table is not zero after the last row".into());
+    }
+    if !got.prepared {
+        return Some("the prepared reading gives something else".into());
+    }
+    if rules.number != got.number || rules.rows.len() as u64 != got.count {
+        return Some(format!("the rules give {} with {} rows, the port {} with {}", rules.number, rules.rows.len(), got.number, got.count));
+    }
+    if let Some(at) = (0..rules.rows.len()).find(|i| rules.rows[*i] != got.rows[*i]) {
+        return Some(format!("row {at}: the rules {:?}, the port {:?}", rules.rows[at], got.rows[at]));
+    }
+    // the crate knows no book, root, long message or table
+    if matches!(got.number, 8..=10 | 13) {
+        return None;
+    }
+    let crate_says = Oracle::new(&case.types).read(case.root, &case.message);
+    differs_from_crate(&crate_says, got, &case.message)
+}
+
+fn differs_from_crate(expected: &Answer, got: &Reply, message: &[u8]) -> Option<String> {
+    match expected {
+        Answer::Broken(why) => Some(format!("the crate ended with: {why}")),
+        Answer::Refused(n) if *n == got.number => None,
+        Answer::Refused(n) => Some(format!("the crate gives {n}, the port {} with {} rows", got.number, got.count)),
+        Answer::Read(_) if got.number != 0 => Some(format!("the crate reads, the port gives {}", got.number)),
+        Answer::Read(rows) if rows.len() != got.rows.len() => Some(format!("the crate stores {} rows, the port {}", rows.len(), got.rows.len())),
+        Answer::Read(rows) => {
+            let data = &message[4..];
+            let at = rows.iter().zip(&got.rows).position(|(r, g)| !same(r, g, data, message[1] % 2 == 0))?;
+            Some(format!("row {at}: the crate {:?}, the port {:?}", rows[at], got.rows[at]))
+        }
+    }
+}
+
+fn same(expected: &Row, got: &[u64; 4], data: &[u8], big: bool) -> bool {
+    match expected {
+        Row::Words(w) => w == got,
+        Row::Text { kind, id, text } => *kind == got[0] && *id == got[1] && text_at(got, data, big).as_ref() == Some(text),
+    }
+}
+
+/// The characters of a text row, by its place in the data.
+fn text_at(row: &[u64; 4], data: &[u8], big: bool) -> Option<String> {
+    let n = if row[0] == 17 { row[3].checked_mul(2)? } else { row[3] };
+    let part = data.get(row[2] as usize..row[2].checked_add(n)? as usize)?;
+    if row[0] == 16 {
+        return String::from_utf8(part.to_vec()).ok();
+    }
+    let units: Vec<u16> = part.chunks(2).map(|u| if big { u16::from_be_bytes([u[0], u[1]]) } else { u16::from_le_bytes([u[0], u[1]]) }).collect();
+    String::from_utf16(&units).ok()
+}
+
+pub fn ask(port: &Port, case: &Case, words: usize) -> Reply {
+    let mut b = Batch::default();
+    b.book(&case.book);
+    b.message(case.root, words, &case.message);
+    port.run(&b).remove(0)
+}
+
+fn hex(b: &[u8]) -> String {
+    b.iter().map(|x| format!("{x:02x}")).collect()
+}
+
+fn show(case: &Case, why: &str) {
+    println!("DIFFERENCE: {why}");
+    for (i, t) in case.types.iter().enumerate() {
+        println!("  {i}: {t:?}");
+    }
+    println!("  book {}\n  root {}\n  message {}", hex(&case.book), case.root, hex(&case.message));
+}
+
+fn main() {
+    let args: Vec<String> = std::env::args().collect();
+    let total: u64 = args[1].parse().expect("COUNT");
+    let seed: u64 = args[2].parse().expect("SEED");
+    let port = Port { folder: args[4].clone(), command: args[5..].to_vec() };
+    let mut run = Run { port, tally: Tally::default(), differences: 0 };
+    run.written(&args[3]);
+    let mut at = 0;
+    while at < total {
+        let n = (total - at).min(5000);
+        let cases: Vec<Case> = (at..at + n).map(|i| gen::case(seed, i)).collect();
+        run.window(cases, seed.wrapping_add(at));
+        at += n;
+    }
+    run.tally.print();
+    println!("{total} cases with seed {seed}: {} differences", run.differences);
+    std::process::exit((run.differences > 0) as i32);
+}
+
+struct Run {
+    port: Port,
+    tally: Tally,
+    differences: u64,
+}
+
+impl Run {
+    fn written(&mut self, file: &str) {
+        let all = written::cases(file);
+        for w in &all {
+            let r = by_rules(&w.case);
+            if (r.number, r.rows.len()) != (w.number, w.rows) {
+                self.differences += 1;
+                println!("DIFFERENCE: line {}: {}\n  the rules give {} {}", w.line, w.text, r.number, r.rows.len());
+            }
+        }
+        println!("{} written cases", all.len());
+        self.window(all.into_iter().map(|w| w.case).collect(), 0);
+    }
+
+    fn window(&mut self, cases: Vec<Case>, seed: u64) {
+        let readings: Vec<(Case, Reading)> = cases.into_iter().map(|c| (by_rules(&c), c)).map(|(r, c)| (c, r)).collect();
+        let (long, fit): (Vec<_>, Vec<_>) = readings.into_iter().partition(|(_, r)| r.number == rules::TOO_MANY_STEPS);
+        self.tally.left_out(long.len());
+        let mut batch = Batch::default();
+        for (c, r) in &fit {
+            batch.book(&c.book);
+            batch.message(c.root, words_for(r), &c.message);
+        }
+        for ((c, r), got) in fit.iter().zip(self.port.run(&batch)) {
+            self.tally.reading(c, r);
+            if differs(c, r, &got).is_some() {
+                self.differ(c);
+            }
+        }
+        self.tables(&fit, seed);
+    }
+
+    fn differ(&mut self, c: &Case) {
+        self.differences += 1;
+        if self.differences > 5 {
+            return;
+        }
+        let small = shrink::shrink(&self.port, c);
+        let rules = by_rules(&small);
+        let got = ask(&self.port, &small, words_for(&rules));
+        show(&small, &differs(&small, &rules, &got).unwrap_or_default());
+    }
+
+    /// Tables of every size around what is needed: 13 below it, the same answer from it on.
+    fn tables(&mut self, readings: &[(Case, Reading)], seed: u64) {
+        let mut rng = rng::Rng::new(seed, 13);
+        let mut batch = Batch::default();
+        let mut asked = Vec::new();
+        for (c, r) in readings {
+            if r.needed > 1000 || !rng.chance(15) {
+                continue;
+            }
+            batch.book(&c.book);
+            for k in 0..=r.needed + 1 {
+                if k < 12 || k + 2 > r.needed || rng.chance(10) {
+                    batch.message(c.root, 4 * k + rng.below(4), &c.message);
+                    asked.push((c, r, k));
+                }
+            }
+        }
+        for ((c, r, k), got) in asked.into_iter().zip(self.port.run(&batch)) {
+            let same = if k < r.needed { got.number == 13 && got.count == 0 } else { got.number == r.number && got.rows == r.rows };
+            self.tally.table(k, r);
+            if !(same && got.cleared && got.prepared) {
+                self.differences += 1;
+                show(c, &format!("a table of {k} rows, {} needed: {} with {} rows", r.needed, got.number, got.count));
+            }
+        }
+    }
+}

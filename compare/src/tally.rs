@@ -1,0 +1,193 @@
+// How often each answer and each feature was reached.
+use crate::gen::Case;
+use crate::rules::Reading;
+use std::collections::BTreeMap;
+
+#[derive(Default)]
+pub struct Tally(BTreeMap<String, u64>);
+
+const KINDS: [&str; 28] = [
+    "NONE",
+    "BOOLEAN",
+    "BYTE",
+    "INT16",
+    "INT32",
+    "INT64",
+    "UINT16",
+    "UINT32",
+    "UINT64",
+    "FLOAT32",
+    "FLOAT64",
+    "FLOAT128",
+    "INT8",
+    "UINT8",
+    "CHAR8",
+    "CHAR16",
+    "STRING8",
+    "STRING16",
+    "ALIAS",
+    "BITMASK",
+    "ANNOTATION",
+    "ENUM",
+    "STRUCTURE",
+    "UNION",
+    "BITSET",
+    "SEQUENCE",
+    "ARRAY",
+    "MAP",
+];
+
+const EXTENSIBILITY: [&str; 3] = ["Final", "Appendable", "Mutable"];
+
+const MARKS: [&str; 26] = [
+    "ended early, Appendable",
+    "ended early, UseDefault",
+    "past the end",
+    "optional, present",
+    "optional, absent",
+    "XCDR1 lookup, found",
+    "XCDR1 lookup, length 0",
+    "XCDR1 lookup, end marker",
+    "XCDR1 lookup, short",
+    "XCDR2 lookup, short",
+    "LC 0",
+    "LC 1",
+    "LC 2",
+    "LC 3",
+    "LC 4",
+    "LC 5",
+    "LC 6",
+    "LC 7",
+    "found sequence of primitives",
+    "Mutable union's DHEADER unheard",
+    "union, by label",
+    "union, the last default",
+    "union, UseDefault",
+    "union, none selected",
+    "needs more rows than it keeps",
+    "opens at depth 16",
+];
+
+const WAYS: [&str; 11] = [
+    "well-formed",
+    "cut",
+    "flipped",
+    "word changed",
+    "shifted",
+    "longer",
+    "noise",
+    "unknown identifier",
+    "under 4 bytes",
+    "root not below the number of types",
+    "book damaged",
+];
+
+fn version(id: u8) -> &'static str {
+    match id {
+        0 | 2 => "XCDR1 big-endian",
+        1 | 3 => "XCDR1 little-endian",
+        6 | 8 | 10 => "XCDR2 big-endian",
+        _ => "XCDR2 little-endian",
+    }
+}
+
+impl Tally {
+    fn add(&mut self, what: String) {
+        *self.0.entry(what).or_default() += 1;
+    }
+
+    pub fn reading(&mut self, c: &Case, r: &Reading) {
+        self.add(format!("answer {:>2}", r.number));
+        let rule = crate::broken::BREAKS.contains(&c.way);
+        self.add(format!("{} {}", if rule { "book broken:" } else { "message" }, c.way));
+        for m in &r.marks {
+            self.add(format!("reached {m}"));
+        }
+        if r.number == 0 && r.needed > r.rows.len() {
+            self.add("reached needs more rows than it keeps".into());
+        }
+        if c.message.len() >= 4 && c.message[0] == 0 && !matches!(r.number, 8..=10) {
+            self.add(format!("identifier 00{:02x}", c.message[1]));
+        }
+        for i in 0..r.rows.len() {
+            self.row(c, r, i);
+        }
+        if deepest(r) == 16 {
+            self.add("reached opens at depth 16".into());
+        }
+    }
+
+    pub fn left_out(&mut self, n: usize) {
+        if n > 0 {
+            *self.0.entry("left out: too many steps".into()).or_default() += n as u64;
+        }
+    }
+
+    fn row(&mut self, c: &Case, r: &Reading, i: usize) {
+        let [kind, _, a, b] = r.rows[i];
+        match kind {
+            21..=23 => {
+                let t = &c.types[a as usize];
+                self.add(format!("stored {} {}, {}", EXTENSIBILITY[t.ext as usize], KINDS[kind as usize], version(c.message[1])));
+            }
+            25 => {
+                let n = if b == 0 { "empty" } else { "filled" };
+                self.add(format!("stored list of {}, {n}", KINDS[a as usize]));
+            }
+            _ => self.add(format!("stored {}", KINDS[kind as usize])),
+        }
+    }
+
+    pub fn table(&mut self, k: usize, r: &Reading) {
+        self.add(format!("table {}", if k < r.needed { "too small" } else { "of enough rows" }));
+    }
+
+    fn wanted() -> Vec<String> {
+        let mut all: Vec<String> = [0, 1, 2, 3, 8, 9, 10, 11, 12, 13, 14].iter().map(|n| format!("answer {n:>2}")).collect();
+        all.extend(WAYS.iter().map(|w| format!("message {w}")));
+        all.extend(crate::broken::BREAKS.iter().map(|w| format!("book broken: {w}")));
+        all.extend(MARKS.iter().map(|w| format!("reached {w}")));
+        all.extend([0, 1, 2, 3, 6, 7, 8, 9, 10, 11].iter().map(|i| format!("identifier 00{i:02x}")));
+        for k in [1, 3, 4, 5, 6, 7, 8, 9, 10, 11, 12, 13, 14, 16, 17] {
+            all.push(format!("stored {}", KINDS[k]));
+        }
+        for k in [1, 3, 4, 5, 6, 7, 8, 9, 10, 11, 12, 13, 14, 16, 17, 21, 22, 23] {
+            all.push(format!("stored list of {}, empty", KINDS[k]));
+            all.push(format!("stored list of {}, filled", KINDS[k]));
+        }
+        for id in [0, 1, 6, 7] {
+            for k in 21..=23 {
+                all.extend(EXTENSIBILITY.iter().map(|e| format!("stored {e} {}, {}", KINDS[k], version(id))));
+            }
+        }
+        all.extend(["table too small".to_string(), "table of enough rows".to_string()]);
+        all
+    }
+
+    pub fn print(&self) {
+        for (what, n) in &self.0 {
+            println!("{n:>10}  {what}");
+        }
+        for w in Self::wanted() {
+            if !self.0.contains_key(&w) {
+                println!("NOT REACHED  {w}");
+            }
+        }
+    }
+}
+
+/// The greatest depth of an opened value among the rows.
+fn deepest(r: &Reading) -> usize {
+    let mut ends: Vec<usize> = Vec::new();
+    let mut most = 0;
+    for (i, row) in r.rows.iter().enumerate() {
+        while ends.last().is_some_and(|e| *e <= i) {
+            ends.pop();
+        }
+        if (21..=23).contains(&row[0]) {
+            ends.push(i + 1 + row[3] as usize);
+            most = most.max(ends.len());
+        }
+    }
+    most
+}

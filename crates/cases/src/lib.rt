@@ -1,0 +1,3 @@
+// What the programs share: a case as bytes, and an answer as lines.
+pub mod input;
+pub mod lines;

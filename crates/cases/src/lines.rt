@@ -1,0 +1,41 @@
+// An answer as lines on standard output.
+use libc::STDOUT_FILENO;
+use sinotayam::answer::Answer;
+use table::rows::row_at;
+
+fn number(n: u64) {
+    io::print_decimal(STDOUT_FILENO, n);
+}
+
+fn text(s: &[u8]) {
+    io::write_all(STDOUT_FILENO, s);
+}
+
+// Row i: kind, id, a, b.
+fn line(table: &[u64], i: usize) {
+    let row = row_at(table, i);
+    number(row.kind);
+    text(b" ");
+    number(row.id);
+    text(b" ");
+    number(row.a);
+    text(b" ");
+    number(row.b);
+    text(b"\n");
+}
+
+// "answer N rows K", and the rows.
+pub fn answer(a: Answer, table: &[u64]) {
+    let code = a.number;
+    let rows = a.rows;
+    text(b"answer ");
+    number(code.code() as u64);
+    text(b" rows ");
+    number(rows as u64);
+    text(b"\n");
+    let mut i = 0;
+    while i < rows {
+        line(table, i);
+        i += 1;
+    }
+}

@@ -1,0 +1,208 @@
+-- What a test of a kind says of it, by one computed test over the kinds in question. Assumes nothing.
+use Prim.Native.Nat.{ℕ, _≤_}
+use mathlib.Core.Path.{_≡_, refl, sym, ap, _∙_}
+use mathlib.Core.Bool.{Bool, true, false, not, _||_}
+use mathlib.Core.List.{List, [], _∷_}
+use native.Mathlib.Omega.{arith}
+use lib.Dec.{eqb, T}
+use borrow.Author.Tests.{eqb-true, ne-eqb, not-true}
+use Rattle.ground.specs.Choice.{pick, both, among, _‥_, within}
+use Rattle.ground.proofs.Between.{passes, between}
+use Rattle.book.specs.Types.{BookType, bounded}
+use Rattle.book.specs.Rules.{every}
+use Rattle.book.proofs.Kept.{apart, both-first, both-second}
+use Rattle.kinds.specs.Kinds.{isPrimitive, storedOf, opens, unsupportedMember, unsupportedElement, bitmaskStored, storedByBound}
+use Rattle.reader.specs.Value.{readAs}
+use Rattle.fit.specs.Fit.{chooses}
+use Rattle.fit.specs.Shape.{storedKind, isNumber}
+
+pub true-is : (b : Bool) → T b → b ≡ true
+true-is true t = refl
+true-is false t = absurd t
+
+pub is-true : (b : Bool) → b ≡ true → T b
+is-true true e = tt
+is-true false e = absurd (apart e)
+
+-- what each of these numbers passes, one of them passes
+pub among-each : (f : ℕ → Bool) (xs : List ℕ) → T (every f xs) → (k : ℕ) → among xs k ≡ true → f k ≡ true
+unfolding every
+among-each f [] t k e = absurd (apart e)
+among-each f (x ∷ xs) t k e =
+    let all : both (f x) (every f xs) ≡ true = true-is (both (f x) (every f xs)) t in
+    go (eqb k x) refl e (both-first (f x) (every f xs) all) (λ h. among-each f xs (is-true (every f xs) (both-second (f x) (every f xs) all)) k h)
+  where
+    go : (b : Bool) → eqb k x ≡ b → (b || among xs k) ≡ true → f x ≡ true → (among xs k ≡ true → f k ≡ true) → f k ≡ true
+    go true q h p r = rw (eqb-true k x q) p
+    go false q h p r = r h
+
+-- what the 28 kinds pass, a kind passes
+pub kind-each : (f : ℕ → Bool) → T (passes f 0 28) → (k : ℕ) → k ≤ 27 → f k ≡ true
+kind-each f t k h = true-is (f k) (between f 28 0 t k (omega arith) (omega arith))
+
+abbrev numbers : List ℕ
+numbers = 1 ∷ 2 ∷ 3 ∷ 4 ∷ 5 ∷ 6 ∷ 7 ∷ 8 ∷ 9 ∷ 10 ∷ 11 ∷ 12 ∷ 13 ∷ 14 ∷ 19 ∷ []
+
+-- what is read as a single number or text: any primitive but CHAR16, STRING8, STRING16
+abbrev pub readable : ℕ → Bool
+readable k = pick (eqb k 15) false (pick (eqb k 16) true (pick (eqb k 17) true (isPrimitive k)))
+
+abbrev readableMember : ℕ → Bool
+readableMember k =
+    pick (eqb k 0) true (pick (unsupportedMember k) true (pick (opens k) true (pick (among (25 ∷ 26 ∷ []) k) true (pick (eqb k 19) true (readable k)))))
+
+abbrev readableElement : ℕ → Bool
+readableElement k = pick (unsupportedElement k) true (pick (opens k) true (pick (eqb k 19) true (readable k)))
+
+abbrev numbered : ℕ → Bool
+numbered k =
+    pick (eqb k 19) true
+    (pick (eqb k 16) true (pick (eqb k 17) true (pick (readable k) (among numbers k) true)))
+
+member-kinds : (k : ℕ) → k ≤ 27 → readableMember k ≡ true
+unfolding unsupportedMember opens isPrimitive
+member-kinds k h = kind-each readableMember tt k h
+
+element-kinds : (k : ℕ) → k ≤ 27 → readableElement k ≡ true
+unfolding unsupportedElement opens isPrimitive
+element-kinds k h = kind-each readableElement tt k h
+
+numbered-kinds : (k : ℕ) → k ≤ 27 → numbered k ≡ true
+unfolding isPrimitive
+numbered-kinds k h = kind-each numbered tt k h
+
+-- what is opened is no bitmask, and is stored as it is
+opened-stored : (k : ℕ) → k ≤ 27 → opens k ≡ true → (eqb k 19 ≡ false) × (storedOf k ≡ k)
+unfolding opens storedOf
+opened-stored k h e =
+    (not-true (eqb k 19) (rw e at (kind-each (λ n. pick (opens n) (not (eqb n 19)) true) tt k h)), eqb-true (storedOf k) k (rw e at (kind-each (λ n. pick (opens n) (eqb (storedOf n) n) true) tt k h)))
+
+-- .. and no list, and a union where it is neither an enum nor a structure
+pub opened-flat : (k : ℕ) → k ≤ 27 → opens k ≡ true → (eqb k 25 || eqb k 26) ≡ false
+unfolding opens
+opened-flat k h e = not-true (eqb k 25 || eqb k 26) (rw e at (kind-each (λ n. pick (opens n) (not (eqb n 25 || eqb n 26)) true) tt k h))
+
+pub opened-union : (k : ℕ) → k ≤ 27 → opens k ≡ true → eqb k 21 ≡ false → eqb k 22 ≡ false → k ≡ 23
+unfolding opens
+opened-union k h e p q = eqb-true k 23 (rw (e, p, q) at (kind-each (λ n. pick (opens n) (pick (eqb n 21) true (pick (eqb n 22) true (eqb n 23))) true) tt k h))
+
+-- an enum's base
+pub record Base (k : ℕ) : Type 0 where
+  pub reads : readable k ≡ true
+  pub stored : storedOf k ≡ k
+  pub noText8 : k ≡ 16 → ⊥
+  pub noText16 : k ≡ 17 → ⊥
+  pub chooses : among (3 ∷ 4 ∷ 6 ∷ 7 ∷ 12 ∷ 13 ∷ []) k ≡ true
+
+pub base-is : (k : ℕ) → among (3 ∷ 4 ∷ 12 ∷ []) k ≡ true → Base k
+unfolding isPrimitive storedOf every
+base-is k e =
+    record {
+      reads = among-each readable (3 ∷ 4 ∷ 12 ∷ []) tt k e;
+      stored = eqb-true (storedOf k) k (among-each (λ n. eqb (storedOf n) n) (3 ∷ 4 ∷ 12 ∷ []) tt k e);
+      noText8 = λ (z : k ≡ 16). apart (rw z at e);
+      noText16 = λ (z : k ≡ 17). apart (rw z at e);
+      chooses = among-each (λ n. among (3 ∷ 4 ∷ 6 ∷ 7 ∷ 12 ∷ 13 ∷ []) n) (3 ∷ 4 ∷ 12 ∷ []) tt k e;
+    }
+
+-- a bitmask is stored as 13, 6, 7 or 8
+pub bitmask-among : (f : Bool) (n : ℕ) → among (13 ∷ 6 ∷ 7 ∷ 8 ∷ []) (bitmaskStored f n) ≡ true
+unfolding bitmaskStored storedByBound
+bitmask-among f n = go (within (1 ‥ 8) (pick f n 32)) (within (9 ‥ 16) (pick f n 32)) (within (17 ‥ 32) (pick f n 32))
+  where
+    go : (a b c : Bool) → among (13 ∷ 6 ∷ 7 ∷ 8 ∷ []) (pick a 13 (pick b 6 (pick c 7 8))) ≡ true
+    go true b c = refl
+    go false true c = refl
+    go false false true = refl
+    go false false false = refl
+
+module _ (t : BookType) where
+  plain-read : eqb (t .kind) 19 ≡ false → readAs t ≡ t .kind
+  unfolding readAs
+  plain-read e = rw e
+
+  mask-read : eqb (t .kind) 19 ≡ true → readAs t ≡ bitmaskStored (bounded t) (t .bound)
+  unfolding readAs
+  mask-read e = rw e
+
+  by-mask : (P : Type 0) → (eqb (t .kind) 19 ≡ true → P) → (eqb (t .kind) 19 ≡ false → P) → P
+  by-mask P p q = go (eqb (t .kind) 19) refl
+    where
+      go : (b : Bool) → eqb (t .kind) 19 ≡ b → P
+      go true e = p e
+      go false e = q e
+
+  mask-readable : eqb (t .kind) 19 ≡ true → readable (readAs t) ≡ true
+  unfolding isPrimitive every
+  mask-readable e = rw (mask-read e) (among-each readable (13 ∷ 6 ∷ 7 ∷ 8 ∷ []) tt (bitmaskStored (bounded t) (t .bound)) (bitmask-among (bounded t) (t .bound)))
+
+  -- a member's kind that is neither NONE, nor opened, nor a list
+  pub member-readable : t .kind ≤ 27 → eqb (t .kind) 0 ≡ false → unsupportedMember (t .kind) ≡ false → opens (t .kind) ≡ false
+      → among (25 ∷ 26 ∷ []) (t .kind) ≡ false → readable (readAs t) ≡ true
+  member-readable h z u o l =
+      by-mask (readable (readAs t) ≡ true) mask-readable (λ m.
+      rw (plain-read m) (rw (z, u, o, l, m) at (member-kinds (t .kind) h)))
+
+  pub element-readable : t .kind ≤ 27 → unsupportedElement (t .kind) ≡ false → opens (t .kind) ≡ false → readable (readAs t) ≡ true
+  element-readable h u o =
+      by-mask (readable (readAs t) ≡ true) mask-readable (λ m.
+      rw (plain-read m) (rw (u, o, m) at (element-kinds (t .kind) h)))
+
+  -- what is read and no text is a number
+  pub number-kind : t .kind ≤ 27 → readable (readAs t) ≡ true → (readAs t ≡ 16 → ⊥) → (readAs t ≡ 17 → ⊥) → isNumber t ≡ true
+  unfolding isNumber
+  number-kind h r p q =
+      by-mask (among numbers (t .kind) ≡ true) (λ m. rw (eqb-true (t .kind) 19 m)) (λ m.
+      let e = plain-read m in
+      rw m (rw (m, rw e at r, ne-eqb (t .kind) 16 (λ z. p (e ∙ z)), ne-eqb (t .kind) 17 (λ z. q (e ∙ z))) at (numbered-kinds (t .kind) h)))
+
+  -- what is read as a text is one
+  pub text-kind : (n : ℕ) → among (16 ∷ 17 ∷ []) n ≡ true → readAs t ≡ n → t .kind ≡ n
+  unfolding every
+  text-kind n h e =
+      by-mask (t .kind ≡ n) (λ m.
+      let z = among-each (λ k. not (among (16 ∷ 17 ∷ []) k)) (13 ∷ 6 ∷ 7 ∷ 8 ∷ []) tt n (rw (← e, mask-read m) (bitmask-among (bounded t) (t .bound))) in
+      absurd (apart (rw h at z))) (λ m. sym (plain-read m) ∙ e)
+
+  -- a discriminator that is a number has a row of these kinds
+  pub chosen-stored : chooses t ≡ true → isNumber t ≡ true → among (3 ∷ 4 ∷ 6 ∷ 7 ∷ 12 ∷ 13 ∷ []) (storedKind t) ≡ true
+  unfolding chooses isNumber storedKind storedOf every bounded
+  chosen-stored c n =
+      by-mask (among (3 ∷ 4 ∷ 6 ∷ 7 ∷ 12 ∷ 13 ∷ []) (storedOf (readAs t)) ≡ true) (λ m.
+      rw (mask-read m)
+      (among-each (λ k. among (3 ∷ 4 ∷ 6 ∷ 7 ∷ 12 ∷ 13 ∷ []) (storedOf k)) (13 ∷ 6 ∷ 7 ∷ []) tt (bitmaskStored (bounded t) (t .bound)) (rw (eqb-true (t .kind) 19 m) at c))) (λ m.
+      rw (plain-read m) (go (among (2 ∷ 3 ∷ 4 ∷ 6 ∷ 7 ∷ 12 ∷ 13 ∷ 21 ∷ []) (t .kind)) refl (rw m at c)))
+    where
+      go : (b : Bool) → among (2 ∷ 3 ∷ 4 ∷ 6 ∷ 7 ∷ 12 ∷ 13 ∷ 21 ∷ []) (t .kind) ≡ b → (b || false) ≡ true → among (3 ∷ 4 ∷ 6 ∷ 7 ∷ 12 ∷ 13 ∷ []) (storedOf (t .kind)) ≡ true
+      go true e h =
+          rw n at (among-each (λ k. pick (among numbers k) (among (3 ∷ 4 ∷ 6 ∷ 7 ∷ 12 ∷ 13 ∷ []) (storedOf k)) true) (2 ∷ 3 ∷ 4 ∷ 6 ∷ 7 ∷ 12 ∷ 13 ∷ 21 ∷ []) tt (t .kind) e)
+      go false e h = absurd (apart h)
+
+  -- what is opened is stored as it is
+  pub opened-kind : t .kind ≤ 27 → opens (t .kind) ≡ true → storedKind t ≡ t .kind
+  unfolding storedKind
+  opened-kind h o = let k = opened-stored (t .kind) h o in rw (plain-read (k .0)) (k .1)
+
+  -- BYTE and UINT8 are read as they are
+  pub block-kind : among (2 ∷ 13 ∷ []) (t .kind) ≡ true → readAs t ≡ t .kind
+  unfolding every
+  block-kind e = plain-read (not-true (eqb (t .kind) 19) (among-each (λ k. not (eqb k 19)) (2 ∷ 13 ∷ []) tt (t .kind) e))
+
+  -- the row of a number is neither opened nor a list's
+  pub number-stored : isNumber t ≡ true → (opens (storedKind t) ≡ false) × (eqb (storedKind t) 25 ≡ false)
+  unfolding isNumber storedKind opens storedOf every
+  number-stored n =
+      by-mask ((opens (storedOf (readAs t)) ≡ false) × (eqb (storedOf (readAs t)) 25 ≡ false)) (λ m.
+      rw (mask-read m) (
+        not-true (opens (storedOf (bitmaskStored (bounded t) (t .bound)))) (among-each (λ k. not (opens (storedOf k))) (13 ∷ 6 ∷ 7 ∷ 8 ∷ []) tt (bitmaskStored (bounded t) (t .bound)) (bitmask-among (bounded t) (t .bound))),
+        not-true (eqb (storedOf (bitmaskStored (bounded t) (t .bound))) 25) (among-each (λ k. not (eqb (storedOf k) 25)) (13 ∷ 6 ∷ 7 ∷ 8 ∷ []) tt (bitmaskStored (bounded t) (t .bound)) (bitmask-among (bounded t) (t .bound))),
+      )) (λ m.
+      rw (plain-read m) (
+        not-true (opens (storedOf (t .kind))) (among-each (λ k. not (opens (storedOf k))) numbers tt (t .kind) n),
+        not-true (eqb (storedOf (t .kind)) 25) (among-each (λ k. not (eqb (storedOf k) 25)) numbers tt (t .kind) n),
+      ))
+
+  -- what is stored as it is
+  pub own-stored : (n : ℕ) → t .kind ≡ n → eqb n 19 ≡ false → storedKind t ≡ storedOf n
+  unfolding storedKind
+  own-stored n e m = rw (plain-read (rw (← e) at m)) (ap storedOf e)

@@ -1,0 +1,13 @@
+pub mod Ends
+pub mod KindTests
+pub mod Scalars
+pub mod Unions
+pub mod Settling
+pub mod Exact
+pub mod Books
+pub mod Asked
+pub mod Measuring
+pub mod Checking
+pub mod Walking
+pub mod Demand3
+mod Examples

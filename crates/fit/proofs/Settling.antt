@@ -1,0 +1,419 @@
+-- THE ONE PASS OVER THE RULES: where a type is fit, a value of it is read with rows of its shape, or is short, or is refused with one of three
+-- numbers. One law for each rule of the reader, in its order, over one hypothesis about how values are opened; then the depth. Assumes nothing.
+use Prim.Native.Nat.{ℕ, zero, suc, _+_, _-_, _≤_}
+use mathlib.Core.Path.{_≡_, refl, sym, ap, _∙_}
+use mathlib.Core.Bool.{Bool, true, false, _||_}
+use mathlib.Core.List.{List, [], _∷_, _++_, append-nil, List·Memᴰ·head, List·Memᴰ·tail}
+use mathlib.Core.Option.{Option, none, some}
+use native.Mathlib.Omega.{arith}
+use lib.Dec.{eqb}
+use lib.ListN.{length}
+use lib.IntN.{ℤ}
+use borrow.Author.Tests.{eqb-true, eq-eqb, not-true}
+use Rattle.ground.specs.Choice.{among}
+use Rattle.wire.specs.declared.cursor.Cursor.{Cursor}
+use Rattle.wire.specs.declared.cursor.Place.{Place}
+use Rattle.wire.specs.declared.cursor.Place.the-variants as place
+use Rattle.wire.specs.declared.settings.Settings.{Settings}
+use Rattle.wire.specs.declared.settings.Version.{Version}
+use Rattle.wire.specs.declared.settings.Version.the-variants.{Xcdr1, Xcdr2}
+use Rattle.wire.specs.declared.number.Number.{Number}
+use Rattle.wire.specs.declared.number.Number.the-variants as number
+use Rattle.wire.specs.declared.number.Boolean.{Boolean}
+use Rattle.wire.specs.declared.number.Boolean.the-variants as boolean
+use Rattle.wire.specs.Place.{seekTo}
+use Rattle.wire.specs.Number.{readBoolean}
+use Rattle.kinds.specs.Kinds.{opens, unsupportedMember, unsupportedElement}
+use Rattle.book.specs.Types.{BookType, Member, optional, default, typeNo}
+use Rattle.book.specs.Rules.{isEnum, isList, every}
+use Rattle.book.proofs.Kept.{apart, both-first, both-second, or-other}
+use Rattle.choice.specs.Discriminator.{discriminatorOf}
+use Rattle.choice.specs.Select.{selectedOf}
+use Rattle.choice.specs.declared.discriminator.Discriminator.{Discriminator}
+use Rattle.choice.specs.declared.discriminator.Discriminator.the-variants as discriminator
+use Rattle.lookup.specs.Member.{locate}
+use Rattle.lookup.specs.Xcdr1.{seekToSentinel}
+use Rattle.lookup.specs.Dheader.{endingAt}
+use Rattle.lookup.specs.declared.dheader.Ending.{Ending}
+use Rattle.lookup.specs.declared.dheader.Ending.the-variants as ending
+use Rattle.lookup.specs.declared.member.Located.{Located}
+use Rattle.lookup.specs.declared.member.Located.the-variants as located
+use Rattle.table.specs.declared.rows.Row.{Row}
+use Rattle.table.specs.Rows.{row}
+use Rattle.table.specs.Outcome.{Outcome, read, short, refused}
+use Rattle.values.specs.Scalar.{scalarOf, enumOf}
+use Rattle.values.specs.List.{elementsFrom, listOf, onBlock, blockOf}
+use Rattle.values.specs.Header.{countFrom, countAt, listStart, unheardDheader}
+use Rattle.reader.specs.Value.{Nest, readAs, isSequence, primitiveElement, openedFrom, openedList, elementsOf, listValue, valueOf}
+use Rattle.reader.specs.Member.{byLength, elementCount, foundBy, foundOf, onLocated, mmemberOf, onPresent, optionalBy, fmemberBy, fmemberOf}
+use Rattle.reader.specs.Structure.{absorbs, fmembersOf, mmembersOf, atSentinel, onEnding, mstructBy}
+use Rattle.reader.specs.Union.{memberBy, discriminatorBy, onSelected, onDiscriminator, chosenOf, membersBy}
+use Rattle.reader.specs.Nested.{isMutable, contentsAt, asFinal, asMutable, bodyBy, bodyOf, openedIf, nestedAt}
+use Rattle.fit.specs.Fit as fit
+use Rattle.fit.specs.Fit.{OneOf, Fit, linksOf, memberTypes, memberSupported, membersSupported, elementSupported, baseSupported, chooses, firstChooses, discriminatorFits}
+use Rattle.fit.specs.Shape as shape
+use Rattle.fit.specs.Shape.{Value, Single, Elements, Opened, Beneath, Members, Held, storedKind}
+use Rattle.fit.proofs.Ends.{finished, wanting, broken, ends-prepend, ends-then, ends-end, ends-room, ends-closed, ends-back, ends-as, ends-move, ends-number, by-test}
+use Rattle.fit.proofs.KindTests.{readable, member-readable, element-readable, number-kind, text-kind, opened-kind, opened-flat, opened-union, block-kind, base-is}
+use Rattle.fit.proofs.Unions.{never-unfit, selected-other}
+use Rattle.fit.proofs.Scalars.{bad-data, no-room, no-discriminator, Settles, scalar-settles}
+
+-- what is fit leads to what is fit
+pub fit-next : {types : List BookType} {longest ty next : ℕ} → OneOf next (linksOf (typeNo types ty)) → Fit types longest ty → Fit types longest next
+fit-next l f =
+    record {
+      members = λ k r. f .members k (fit.there l r);
+      elements = λ k r. f .elements k (fit.there l r);
+      bases = λ k r. f .bases k (fit.there l r);
+      discriminators = λ k r. f .discriminators k (fit.there l r);
+      chains = λ n c. f .chains n (fit.passed l c);
+    }
+
+pub fit-below : {types : List BookType} {longest ty next : ℕ} → opens (typeNo types ty .kind) ≡ true → OneOf next (linksOf (typeNo types ty)) → Fit types (suc longest) ty → Fit types longest next
+fit-below o l f =
+    record {
+      members = λ k r. f .members k (fit.there l r);
+      elements = λ k r. f .elements k (fit.there l r);
+      bases = λ k r. f .bases k (fit.there l r);
+      discriminators = λ k r. f .discriminators k (fit.there l r);
+      chains = λ n c. omega (arith, f .chains (suc n) (fit.opened o l c));
+    }
+
+-- what a book's rules say of a type, as far as it is asked for here
+pub record Right (types : List BookType) (k : ℕ) : Type 0 where
+  pub kind : typeNo types k .kind ≤ 27
+  pub noDefault : (m : Member) (ms : List Member) → typeNo types k .kind ≡ 23 → typeNo types k .members ≡ m ∷ ms → default m ≡ false
+  pub noLabel : (m : Member) (ms : List Member) → typeNo types k .kind ≡ 23 → typeNo types k .members ≡ m ∷ ms → m .labels ≡ []
+
+-- ---- lists
+
+array-count : (s : List ℕ) (set : Settings) (primitive sequence : Bool) (bound : ℕ) (c : Cursor) (v : ℕ) (d : Cursor) → sequence ≡ false → countFrom s set primitive sequence bound c ≡ number.Got v d → v ≡ bound
+unfolding countFrom countAt
+array-count s set primitive sequence bound c v d e g = go (listStart s set primitive c) (rw e at g)
+  where
+    go : (p : Place) → countAt s set false bound p ≡ number.Got v d → v ≡ bound
+    go (place.Short x) g = absurd (let z : _≡_ {A = ℕ} 0 1 = cc in omega arith)
+    go (place.At x) g = cc
+
+list-is : (k : ℕ) → among (25 ∷ 26 ∷ []) k ≡ true → (eqb k 25 || eqb k 26) ≡ true
+list-is k = go (eqb k 25) (eqb k 26)
+  where
+    go : (a b : Bool) → (a || (b || false)) ≡ true → (a || b) ≡ true
+    go true b e = refl
+    go false true e = refl
+    go false false e = e
+
+list-link : (t : BookType) → isList t ≡ true → OneOf (t .element) (linksOf t)
+unfolding linksOf
+list-link t e = rw e (List·Memᴰ·head refl)
+
+list-element : (types : List BookType) (t : BookType) → elementSupported types t ≡ true → isList t ≡ true → unsupportedElement (typeNo types (t .element) .kind) ≡ false
+unfolding elementSupported
+list-element types t h e = not-true (unsupportedElement (typeNo types (t .element) .kind)) (rw e at h)
+
+by-length : (v : Version) (types : List BookType) (t : BookType) → byLength v types t ≡ true → eqb (t .kind) 25 ≡ true
+unfolding byLength isSequence
+by-length Xcdr1 types t e = absurd (apart e)
+by-length Xcdr2 types t e = both-first (eqb (t .kind) 25) (primitiveElement types t) e
+
+-- ---- members
+
+abbrev NoRows : List Row → Type 0
+NoRows rs = rs ≡ []
+
+pub none-held : (types : List BookType) (s : List ℕ) (ms : List Member) → Members types s ms []
+none-held types s [] = shape.no-member
+none-held types s (m ∷ ms) = shape.member shape.absent (none-held types s ms)
+
+member-type : (ms : List Member) (m : Member) → OneOf m ms → OneOf (m .type) (memberTypes ms)
+unfolding memberTypes
+member-type (x ∷ xs) m (List·Memᴰ·head e) = List·Memᴰ·head (ap (λ (y : Member). y .type) e)
+member-type (x ∷ xs) m (List·Memᴰ·tail o) = List·Memᴰ·tail (member-type xs m o)
+
+member-link : (t : BookType) (m : Member) → isList t ≡ false → isEnum t ≡ false → OneOf m (t .members) → OneOf (m .type) (linksOf t)
+unfolding linksOf
+member-link t m l n o = rw (l, n) (member-type (t .members) m o)
+
+every-one : {A : Type 0} (f : A → Bool) (xs : List A) (x : A) → every f xs ≡ true → OneOf x xs → f x ≡ true
+unfolding every
+every-one f (y ∷ ys) x h (List·Memᴰ·head e) = rw e (both-first (f y) (every f ys) h)
+every-one f (y ∷ ys) x h (List·Memᴰ·tail o) = every-one f ys x (both-second (f y) (every f ys) h) o
+
+-- a member that may be read: its kind, and what it reaches
+record Ready (types : List BookType) (longest : ℕ) (m : Member) : Type 0 where
+  supported : memberSupported types m ≡ true
+  fit : Fit types longest (m .type)
+
+abbrev AllReady : List BookType → ℕ → List Member → Type 0
+AllReady types longest ms = (m : Member) → OneOf m ms → Ready types longest m
+
+-- what is asked of a type that is opened
+record Openable (types : List BookType) (longest ty : ℕ) : Type 0 where
+  opens : opens (typeNo types ty .kind) ≡ true
+  base : baseSupported (typeNo types ty) ≡ true
+  first : discriminatorFits types (typeNo types ty) ≡ true
+  ready : eqb (typeNo types ty .kind) 21 ≡ false → AllReady types longest (typeNo types ty .members)
+
+openable : (types : List BookType) → ((k : ℕ) → Right types k) → (longest ty : ℕ) → opens (typeNo types ty .kind) ≡ true → Fit types (suc longest) ty → Openable types longest ty
+unfolding membersSupported
+openable types right longest ty o f =
+    let t = typeNo types ty in
+    record {
+      opens = o;
+      base = f .bases ty fit.here;
+      first = f .discriminators ty fit.here;
+      ready =
+          λ (n : eqb (t .kind) 21 ≡ false) (m : Member) (i : OneOf m (t .members)).
+          record {
+            supported = every-one (memberSupported types) (t .members) m (rw n at (f .members ty fit.here)) i;
+            fit = fit-below o (member-link t m (opened-flat (t .kind) (right ty .kind) o) n i) f;
+          };
+    }
+
+module _ (types : List BookType) (s : List ℕ) (set : Settings) (right : (k : ℕ) → Right types k) where
+  -- a number or a text of a type
+  single-settles : (ty id : ℕ) (c : Cursor) (k : ℕ) → readable (readAs (typeNo types ty)) ≡ true → Settles (Single types s ty id) (scalarOf s set (readAs (typeNo types ty)) id c k)
+  unfolding storedKind
+  single-settles ty id c k h =
+      let t = typeNo types ty in
+      scalar-settles s set (readAs t) id c k h
+      (λ a b p q. shape.number a b (number-kind t (right ty .kind) h p q))
+      (λ start n e i. shape.text8 start n (text-kind t 16 refl e) i)
+      (λ start n e i. shape.text16 start n (text-kind t 17 refl e) i)
+
+  scalars-settle : (ty left i : ℕ) (c : Cursor) (k : ℕ) → readable (readAs (typeNo types ty)) ≡ true → Settles (Elements types s ty left i) (elementsFrom s set (readAs (typeNo types ty)) left i c k)
+  unfolding elementsFrom
+  scalars-settle ty zero i c k h = finished shape.no-element
+  scalars-settle ty (suc left) i c k h =
+      ends-then _ (single-settles ty i c k h) (λ d n. scalars-settle ty left (i + 1) d (k - n) h) (λ rs ss r s. shape.element r s)
+
+  -- a list of them, whatever is said of its row and its elements
+  module _ {R : List Row → Type 0} (ty id count : ℕ) (r : (rs : List Row) → Elements types s ty count 0 rs → R (row 25 id (storedKind (typeNo types ty)) count ∷ rs)) where
+    list-settles : (c : Cursor) (k : ℕ) → readable (readAs (typeNo types ty)) ≡ true → Settles R (listOf s set (readAs (typeNo types ty)) id count c k)
+    unfolding listOf storedKind
+    list-settles c k h = ends-room k no-room (ends-prepend _ (scalars-settle ty count 0 c (k - 1) h) r)
+
+    block-settles : (p : Place) (o : Outcome) → Settles R o → Settles R (onBlock p o)
+    unfolding onBlock
+    block-settles (place.Short x) o h = wanting
+    block-settles (place.At d) o h = h
+
+  -- ---- one level of the rules, given what opening a value comes to
+
+  module _ (nest : Nest) (depth : ℕ) (below : (ty id : ℕ) (c : Cursor) (k : ℕ) → opens (typeNo types ty .kind) ≡ true → Fit types depth ty → Settles (Opened types s ty id) (nest ty id c k)) where
+    opened-elements : (ty left i : ℕ) (c : Cursor) (k : ℕ) → opens (typeNo types ty .kind) ≡ true → Fit types depth ty → Settles (Elements types s ty left i) (openedFrom types s set nest ty left i c k)
+    unfolding openedFrom
+    opened-elements ty zero i c k o f = finished shape.no-element
+    opened-elements ty (suc left) i c k o f =
+        ends-then _ (below ty i c k o f) (λ d n. opened-elements ty left (i + 1) d (k - n) o f) (λ rs ss r s. shape.element (shape.nested r) s)
+
+    elements-settle : {R : List Row → Type 0} (ty id count : ℕ) → ((rs : List Row) → Elements types s ty count 0 rs → R (row 25 id (storedKind (typeNo types ty)) count ∷ rs))
+        → (c : Cursor) (k : ℕ) → unsupportedElement (typeNo types ty .kind) ≡ false → Fit types depth ty → Settles R (elementsOf types s set nest ty id count c k)
+    unfolding elementsOf openedList blockOf
+    elements-settle {R} ty id count r c k u f =
+        let F : Outcome → Type 0 = Settles R in
+        let t = typeNo types ty in
+        by-test F (unsupportedElement (t .kind)) (λ e. absurd (apart (sym u ∙ e))) (λ n.
+        by-test F (opens (t .kind)) (λ o.
+        ends-room k no-room (ends-prepend _ (opened-elements ty count 0 c (k - 1) o f) (λ ss e. rw (opened-kind t (right ty .kind) o) at (r ss e)))) (λ o.
+        let h : readable (readAs t) ≡ true = element-readable t (right ty .kind) u o in
+        by-test F (among (2 ∷ 13 ∷ []) (t .kind))
+        (λ e. block-settles ty id count r (seekTo s c count) _ (rw (block-kind t e) at (list-settles {R = R} ty id count r c k h)))
+        (λ n2. list-settles ty id count r c k h)))
+
+    -- an array has as many elements as its bound says
+    list-value : (ty id : ℕ) (c : Cursor) (k : ℕ) → among (25 ∷ 26 ∷ []) (typeNo types ty .kind) ≡ true → Fit types depth ty → Settles (Value types s ty id) (listValue types s set nest (typeNo types ty) id c k)
+    unfolding listValue isSequence
+    list-value ty id c k e f =
+        let t = typeNo types ty in
+        ends-number _ _ (λ count d g.
+        elements-settle (t .element) id count (rows count d g (eqb (t .kind) 25) refl) d k (list-element types t (f .elements ty fit.here) (list-is (t .kind) e)) (fit-next (list-link t (list-is (t .kind) e)) f))
+      where
+        rows : (count : ℕ) (d : Cursor) → countFrom s set (primitiveElement types (typeNo types ty)) (eqb (typeNo types ty .kind) 25) (typeNo types ty .bound) c ≡ number.Got count d
+            → (b : Bool) → eqb (typeNo types ty .kind) 25 ≡ b → (rs : List Row) → Elements types s (typeNo types ty .element) count 0 rs
+            → Value types s ty id (row 25 id (storedKind (typeNo types (typeNo types ty .element))) count ∷ rs)
+        rows count d g true q rs x = shape.sequence count (eqb-true (typeNo types ty .kind) 25 q) x
+        rows count d g false q rs x =
+            let t = typeNo types ty in
+            let n : count ≡ t .bound = array-count s set (primitiveElement types t) (eqb (t .kind) 25) (t .bound) c count d q g in
+            rw n (shape.array (eqb-true (t .kind) 26 (or-other (eqb (t .kind) 25) (eqb (t .kind) 26) (list-is (t .kind) e) q)) (rw n at x))
+
+    value-settles : (m : Member) (c : Cursor) (k : ℕ) → Ready types depth m → Settles (Held types s m) (valueOf types s set nest (m .type) (m .id) c k)
+    unfolding valueOf memberSupported
+    value-settles m c k h =
+        let F : Outcome → Type 0 = Settles (Held types s m) in
+        let t = typeNo types (m .type) in
+        let u : unsupportedMember (t .kind) ≡ false = not-true (unsupportedMember (t .kind)) (h .supported) in
+        by-test F (eqb (t .kind) 0) (λ e. finished shape.absent) (λ z.
+        by-test F (unsupportedMember (t .kind)) (λ e. absurd (apart (sym u ∙ e))) (λ n.
+        by-test F (opens (t .kind)) (λ o. ends-as (below (m .type) (m .id) c k o (h .fit)) (λ rs r. shape.present (shape.one (shape.nested r)))) (λ o.
+        by-test F (among (25 ∷ 26 ∷ []) (t .kind)) (λ e. ends-as (list-value (m .type) (m .id) c k e (h .fit)) (λ rs r. shape.present r)) (λ l.
+        ends-as (single-settles (m .type) (m .id) c k (member-readable t (right (m .type) .kind) z u o l)) (λ rs r. shape.present (shape.one r))))))
+
+    -- ---- a member
+
+    found-settles : (b : Bool) (m : Member) (length : ℕ) (c : Cursor) (k : ℕ) → byLength (set .version) types (typeNo types (m .type)) ≡ b → Ready types depth m → Settles (Held types s m) (foundBy types s set nest b m length c k)
+    unfolding foundBy
+    found-settles true m length c k e h =
+        let t = typeNo types (m .type) in
+        let q : eqb (t .kind) 25 ≡ true = by-length (set .version) types t e in
+        let l : (eqb (t .kind) 25 || eqb (t .kind) 26) ≡ true = rw q in
+        elements-settle (t .element) (m .id) (elementCount types t length) (λ rs x. shape.present (shape.sequence _ (eqb-true (t .kind) 25 q) x)) c k (list-element types t (h .fit .elements (m .type) fit.here) l) (fit-next (list-link t l) (h .fit))
+    found-settles false m length c k e h = value-settles m c k h
+
+    located-settles : (m : Member) (k : ℕ) (l : Located) → Ready types depth m → Settles (Held types s m) (onLocated types s set nest m k l)
+    unfolding onLocated foundOf
+    located-settles m k (located.Short x) h = wanting
+    located-settles m k (located.Absent back) h = finished shape.absent
+    located-settles m k (located.Found length c back) h = ends-back back (found-settles (byLength (set .version) types (typeNo types (m .type))) m length c k refl h)
+
+    mmember-settles : (m : Member) (c : Cursor) (k : ℕ) → Ready types depth m → Settles (Held types s m) (mmemberOf types s set nest m c k)
+    unfolding mmemberOf
+    mmember-settles m c k h = located-settles m k (locate s set (m .id) c) h
+
+    present-settles : (m : Member) (k : ℕ) (b : Boolean) → Ready types depth m → Settles (Held types s m) (onPresent types s set nest m k b)
+    unfolding onPresent
+    present-settles m k (boolean.Short x) h = wanting
+    present-settles m k boolean.Bad h = broken bad-data
+    present-settles m k (boolean.Got false c) h = finished shape.absent
+    present-settles m k (boolean.Got true c) h = value-settles m c k h
+
+    optional-settles : (v : Version) (m : Member) (c : Cursor) (k : ℕ) → Ready types depth m → Settles (Held types s m) (optionalBy types s set nest v m c k)
+    unfolding optionalBy
+    optional-settles Xcdr1 m c k h = mmember-settles m c k h
+    optional-settles Xcdr2 m c k h = present-settles m k (readBoolean s set c) h
+
+    fmember-by : (b : Bool) (m : Member) (c : Cursor) (k : ℕ) → Ready types depth m → Settles (Held types s m) (fmemberBy types s set nest b m c k)
+    unfolding fmemberBy
+    fmember-by true m c k h = optional-settles (set .version) m c k h
+    fmember-by false m c k h = value-settles m c k h
+
+    fmember-settles : (m : Member) (c : Cursor) (k : ℕ) → Ready types depth m → Settles (Held types s m) (fmemberOf types s set nest m c k)
+    unfolding fmemberOf
+    fmember-settles m c k h = fmember-by (optional m) m c k h
+
+    -- ---- structures
+
+    fmembers-settle : (t : BookType) (ms : List Member) (c : Cursor) (k : ℕ) → AllReady types depth ms → Settles (Members types s ms) (fmembersOf types s set nest t ms c k)
+    unfolding fmembersOf
+    fmembers-settle t [] c k h = finished shape.no-member
+    fmembers-settle t (m ∷ ms) c k h =
+        ends-end (absorbs t m) _ (fmember-settles m c k (h m (List·Memᴰ·head refl))) (none-held types s (m ∷ ms))
+        (λ d n. fmembers-settle t ms d (k - n) (λ x o. h x (List·Memᴰ·tail o))) (λ rs ss r x. shape.member r x)
+
+    mmembers-settle : (ms : List Member) (c : Cursor) (k : ℕ) → AllReady types depth ms → Settles (Members types s ms) (mmembersOf types s set nest ms c k)
+    unfolding mmembersOf
+    mmembers-settle [] c k h = finished shape.no-member
+    mmembers-settle (m ∷ ms) c k h =
+        ends-then _ (mmember-settles m c k (h m (List·Memᴰ·head refl))) (λ d n. mmembers-settle ms d (k - n) (λ x o. h x (List·Memᴰ·tail o))) (λ rs ss r x. shape.member r x)
+
+    ending-settles : (t : BookType) (k : ℕ) (e : Ending) → AllReady types depth (t .members) → Settles (Members types s (t .members)) (onEnding types s set nest t k e)
+    unfolding onEnding
+    ending-settles t k (ending.Short x) h = wanting
+    ending-settles t k (ending.At end c) h =
+        ends-then {S = NoRows} _ (mmembers-settle (t .members) c k h) (λ d n. finished refl) (λ rs ss r e. rw (e, append-nil) r)
+
+    mstruct-settles : (v : Version) (t : BookType) (c : Cursor) (k : ℕ) → AllReady types depth (t .members) → Settles (Members types s (t .members)) (mstructBy types s set nest v t c k)
+    unfolding mstructBy atSentinel
+    mstruct-settles Xcdr1 t c k h =
+        ends-then {S = NoRows} _ (mmembers-settle (t .members) c k h) (λ d n. ends-move (seekToSentinel s set d) _ (λ x. finished refl)) (λ rs ss r e. rw (e, append-nil) r)
+    mstruct-settles Xcdr2 t c k h = ending-settles t k (endingAt s set c) h
+
+    -- ---- unions
+
+    member-by : (b : Bool) (m : Member) (c : Cursor) (k : ℕ) → Ready types depth m → Settles (Held types s m) (memberBy types s set nest b m c k)
+    unfolding memberBy
+    member-by true m c k h = mmember-settles m c k h
+    member-by false m c k h = fmember-settles m c k h
+
+    discriminator-settles : (b : Bool) (m : Member) (c : Cursor) (k : ℕ) → Ready types depth m → Settles (Held types s m) (discriminatorBy types s set nest b m c k)
+    unfolding discriminatorBy
+    discriminator-settles true m c k h = mmember-settles m c k h
+    discriminator-settles false m c k h = value-settles m c k h
+
+    -- a union whose first member is a discriminator that the check passes
+    record Choosing (t : BookType) (disc : Member) (others : List Member) : Type 0 where
+      kind : t .kind ≡ 23
+      is : t .members ≡ disc ∷ others
+      noDefault : default disc ≡ false
+      noLabel : disc .labels ≡ []
+      fits : chooses (typeNo types (disc .type)) ≡ true
+      ready : AllReady types depth (disc ∷ others)
+
+    module _ (mutable : Bool) {t : BookType} {disc : Member} {others : List Member} (u : Choosing t disc others) where
+      selected-settles : (ds : List Row) (value : ℤ) (o : Option Member) (c : Cursor) (k : ℕ) → Held types s disc ds → discriminatorOf ds ≡ discriminator.Value value
+          → selectedOf types disc (disc ∷ others) value ≡ o → Settles (λ ss. Beneath types s t (ds ++ ss)) (onSelected types s set nest mutable o c k)
+      unfolding onSelected
+      selected-settles ds value none c k h e q = broken bad-data
+      selected-settles ds value (some m) c k h e q =
+          let i : OneOf m others = selected-other disc others (u .noDefault) (u .noLabel) types value m q in
+          ends-as (member-by mutable m c k (u .ready m (List·Memᴰ·tail i))) (λ ss x. shape.union value (u .kind) (u .is) h e q i x)
+
+      told-settles : (ds : List Row) (v : Discriminator) (c : Cursor) (k : ℕ) → Held types s disc ds → discriminatorOf ds ≡ v
+          → Settles (λ ss. Beneath types s t (ds ++ ss)) (onDiscriminator types s set nest mutable disc (disc ∷ others) c k v)
+      unfolding onDiscriminator
+      told-settles ds discriminator.Absent c k h e = broken no-discriminator
+      told-settles ds discriminator.Unfit c k h e = absurd (never-unfit types s disc ds h (u .fits) e)
+      told-settles ds (discriminator.Value d) c k h e = selected-settles ds d (selectedOf types disc (disc ∷ others) d) c k h e refl
+
+      chosen-settles : (k : ℕ) {o : Outcome} → Settles (Held types s disc) o → Settles (Beneath types s t) (chosenOf types s set nest mutable disc (disc ∷ others) k o)
+      unfolding chosenOf
+      chosen-settles k (finished {c} {rs} h) = ends-prepend rs (told-settles rs (discriminatorOf rs) c (k - length rs) h refl) (λ ss x. x)
+      chosen-settles k wanting = wanting
+      chosen-settles k (broken p) = broken p
+
+    union-settles : (mutable : Bool) (t : BookType) (ms : List Member) (c : Cursor) (k : ℕ) → t .kind ≡ 23 → t .members ≡ ms → firstChooses types ms ≡ true
+        → ((m : Member) (rest : List Member) → t .members ≡ m ∷ rest → (default m ≡ false) × (m .labels ≡ [])) → AllReady types depth ms
+        → Settles (Beneath types s t) (membersBy types s set nest mutable ms c k)
+    unfolding membersBy firstChooses
+    union-settles mutable t [] c k e q f good h = absurd (apart f)
+    union-settles mutable t (m ∷ ms) c k e q f good h =
+        let g = good m ms q in
+        chosen-settles mutable (record { kind = e; is = q; noDefault = g .0; noLabel = g .1; fits = f; ready = h }) k (discriminator-settles mutable m c k (h m (List·Memᴰ·head refl)))
+
+    -- ---- what is opened
+
+    enum-settles : (t : BookType) (c : Cursor) (k : ℕ) → t .kind ≡ 21 → among (3 ∷ 4 ∷ 12 ∷ []) (t .base) ≡ true → Settles (Beneath types s t) (enumOf s set (t .base) c k)
+    unfolding enumOf
+    enum-settles t c k e b =
+        let base = base-is (t .base) b in
+        rw b
+        (scalar-settles s set (t .base) 0 c k (base .reads) (λ x y p q. rw (base .stored) (shape.enum x y e b)) (λ start n z i. absurd (base .noText8 z)) (λ start n z i. absurd (base .noText16 z)))
+
+    module _ (ty : ℕ) (o : Openable types depth ty) where
+      abbrev own : BookType
+      own = typeNo types ty
+
+      a-union : (mutable : Bool) (c : Cursor) (k : ℕ) → eqb (own .kind) 21 ≡ false → eqb (own .kind) 22 ≡ false → Settles (Beneath types s own) (membersBy types s set nest mutable (own .members) c k)
+      unfolding discriminatorFits
+      a-union mutable c k n m =
+          let e : own .kind ≡ 23 = opened-union (own .kind) (right ty .kind) (o .opens) n m in
+          union-settles mutable own (own .members) c k e refl (rw (eq-eqb (own .kind) 23 e) at (o .first)) (λ d rest q. (right ty .noDefault d rest e q, right ty .noLabel d rest e q)) (o .ready n)
+
+      final-settles : (b : Bool) (c : Cursor) (k : ℕ) → eqb (own .kind) 22 ≡ b → eqb (own .kind) 21 ≡ false → Settles (Beneath types s own) (asFinal types s set nest b own c k)
+      unfolding asFinal
+      final-settles true c k e n = ends-as (fmembers-settle own (own .members) c k (o .ready n)) (λ rs x. shape.structure (eqb-true (own .kind) 22 e) x)
+      final-settles false c k e n = a-union false c k n e
+
+      mutable-settles : (b : Bool) (c : Cursor) (k : ℕ) → eqb (own .kind) 22 ≡ b → eqb (own .kind) 21 ≡ false → Settles (Beneath types s own) (asMutable types s set nest b own c k)
+      unfolding asMutable
+      mutable-settles true c k e n = ends-as (mstruct-settles (set .version) own c k (o .ready n)) (λ rs x. shape.structure (eqb-true (own .kind) 22 e) x)
+      mutable-settles false c k e n = a-union true (unheardDheader s set c) k n e
+
+      body-by : (b mutable : Bool) (c : Cursor) (k : ℕ) → eqb (own .kind) 21 ≡ b → Settles (Beneath types s own) (bodyBy types s set nest b mutable own c k)
+      unfolding bodyBy baseSupported
+      body-by true mutable c k e = enum-settles own c k (eqb-true (own .kind) 21 e) (rw e at (o .base))
+      body-by false true c k e = mutable-settles (eqb (own .kind) 22) c k refl e
+      body-by false false c k e = ends-move (contentsAt s set own c) _ (λ d. final-settles (eqb (own .kind) 22) d k refl e)
+
+      opened-settles : (id : ℕ) (c : Cursor) (k : ℕ) → Settles (Opened types s ty id) (openedIf types s set nest (opens (own .kind)) ty id c k)
+      unfolding openedIf bodyOf
+      opened-settles id c k =
+          rw (o .opens) (ends-room k no-room (ends-closed _ _ _ (body-by (eqb (own .kind) 21) (isMutable own) c (k - 1) refl) (λ rs x. shape.opened x)))
+
+-- a value of a fit type, where as many values may be opened as its longest chain has
+pub nested-settles : (types : List BookType) (s : List ℕ) (set : Settings) → ((k : ℕ) → Right types k) → (depth ty id : ℕ) (c : Cursor) (k : ℕ) → opens (typeNo types ty .kind) ≡ true → Fit types depth ty → Settles (Opened types s ty id) (nestedAt types s set depth ty id c k)
+unfolding nestedAt
+nested-settles types s set right zero ty id c k o f = absurd (omega (arith, f .chains 1 (fit.last o)))
+nested-settles types s set right (suc depth) ty id c k o f =
+    opened-settles types s set right (nestedAt types s set depth) depth (nested-settles types s set right depth) ty (openable types right depth ty o f) id c k

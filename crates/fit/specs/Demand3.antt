@@ -1,0 +1,30 @@
+-- What demand 3 says of a reading, and what the check's number says of a book and a root.
+use Prim.Native.Nat.{ℕ, _≤_, _<_}
+use mathlib.Core.Path.{_≡_}
+use mathlib.Core.Bool.{true, false}
+use mathlib.Core.List.{List}
+use Rattle.book.specs.Types.{BookType, typeCount, typesOf}
+use Rattle.book.specs.Rules.{bookOk}
+use Rattle.table.specs.Outcome.{Outcome, numberOf, rowsOf}
+use Rattle.fit.specs.Fit.{Passes}
+use Rattle.fit.specs.Shape.{Opened}
+
+-- the check's number, with what it says: 0 passes, "Otherwise 8, 9, then 16."
+pub data Checked (book : List ℕ) (root : ℕ) : ℕ → Type 0 where
+  fit : bookOk book ≡ true → root < typeCount book → Passes (typesOf book) root → Checked book root 0
+  bad-book : bookOk book ≡ false → Checked book root 8
+  bad-root : bookOk book ≡ true → typeCount book ≤ root → Checked book root 9
+  unfit : bookOk book ≡ true → root < typeCount book → (Passes (typesOf book) root → ⊥) → Checked book root 16
+
+-- the numbers that are left for a reading of a type that the check passes
+pub data Told : ℕ → Type 0 where
+  finished-reading : Told 0
+  too-few-bytes : Told 1
+  invalid-data : Told 2
+  full-table : Told 13
+  absent-discriminator : Told 14
+
+-- the reading gives one of these numbers, and where it is finished its rows are those of one value of the root's type, with id 0
+pub record Untroubled (types : List BookType) (s : List ℕ) (root : ℕ) (o : Outcome) : Type 0 where
+  pub number : Told (numberOf o)
+  pub rows : numberOf o ≡ 0 → Opened types s root 0 (rowsOf o)

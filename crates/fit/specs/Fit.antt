@@ -1,0 +1,90 @@
+-- THE DESCRIPTION OF A TYPE THAT THE CHECK PASSES: document 01's paragraph "The type check", clause by clause, over the types of a book.
+-- "Over the root and all that members and elements reach from it, passes exactly when: root kind is 21 to 23; nothing meets the list for 11;
+-- union discriminators are 2, 3, 4, 6, 7, 12, 13, 21 or bitmasks stored as 13, 6 or 7; and the longest chain of structures, enums and
+-- unions is at most 16."
+use Prim.Native.Nat.{ℕ, suc, _≤_}
+use mathlib.Core.Path.{_≡_}
+use mathlib.Core.Bool.{Bool, true, false, not, _||_}
+use mathlib.Core.List.{List, [], _∷_, List·Memᴰ}
+use lib.Dec.{eqb}
+use Rattle.ground.specs.Choice.{pick, both, among}
+use Rattle.kinds.specs.Kinds.{opens, unsupportedMember, unsupportedElement, bitmaskStored}
+use Rattle.book.specs.Types.{BookType, Member, bounded, typeNo}
+use Rattle.book.specs.Rules.{isEnum, isUnion, isList, every}
+
+-- x stands in the list
+abbrev pub OneOf : {A : Type 0} → A → List A → Type 0
+OneOf x xs = List·Memᴰ x xs
+
+-- ---- what is reached
+
+unfoldable pub memberTypes : List Member → List ℕ
+memberTypes [] = []
+memberTypes (m ∷ ms) = m .type ∷ memberTypes ms
+
+-- the types that a type's members and its element have; "enum members have type 65,535", none
+unfoldable pub linksOf : BookType → List ℕ
+linksOf t = pick (isList t) (t .element ∷ []) (pick (isEnum t) [] (memberTypes (t .members)))
+
+-- "the root and all that members and elements reach from it"
+pub data Reach (types : List BookType) : ℕ → ℕ → Type 0 where
+  here : {k : ℕ} → Reach types k k
+  there : {k next far : ℕ} → OneOf next (linksOf (typeNo types k)) → Reach types next far → Reach types k far
+
+-- ---- what is asked of each type that is reached
+
+-- "11: member kinds 15, 18, 20, 24, 27"
+unfoldable pub memberSupported : List BookType → Member → Bool
+memberSupported types m = not (unsupportedMember (typeNo types (m .type) .kind))
+
+unfoldable pub membersSupported : List BookType → BookType → Bool
+membersSupported types t = pick (isEnum t) true (every (memberSupported types) (t .members))
+
+-- "element kinds 0, 15, 18, 20, 24 to 27, even for 0 elements"
+unfoldable pub elementSupported : List BookType → BookType → Bool
+elementSupported types t = pick (isList t) (not (unsupportedElement (typeNo types (t .element) .kind))) true
+
+-- "enum base not 3, 4, 12"
+unfoldable pub baseSupported : BookType → Bool
+baseSupported t = pick (isEnum t) (among (3 ∷ 4 ∷ 12 ∷ []) (t .base)) true
+
+-- "union discriminators are 2, 3, 4, 6, 7, 12, 13, 21 or bitmasks stored as 13, 6 or 7"
+unfoldable pub chooses : BookType → Bool
+chooses t =
+    among (2 ∷ 3 ∷ 4 ∷ 6 ∷ 7 ∷ 12 ∷ 13 ∷ 21 ∷ []) (t .kind)
+    || both (eqb (t .kind) 19) (among (13 ∷ 6 ∷ 7 ∷ []) (bitmaskStored (bounded t) (t .bound)))
+
+-- a union's first member is its discriminator
+unfoldable pub firstChooses : List BookType → List Member → Bool
+firstChooses types [] = false
+firstChooses types (m ∷ ms) = chooses (typeNo types (m .type))
+
+unfoldable pub discriminatorFits : List BookType → BookType → Bool
+discriminatorFits types t = pick (isUnion t) (firstChooses types (t .members)) true
+
+-- ---- chains
+
+-- a chain of n structures, enums and unions, from a type on; lists are passed through
+pub data Chain (types : List BookType) : ℕ → ℕ → Type 0 where
+  last : {k : ℕ} → opens (typeNo types k .kind) ≡ true → Chain types k 1
+  opened : {k next n : ℕ} → opens (typeNo types k .kind) ≡ true → OneOf next (linksOf (typeNo types k)) → Chain types next n → Chain types k (suc n)
+  passed : {k next n : ℕ} → OneOf next (linksOf (typeNo types k)) → Chain types next n → Chain types k n
+
+-- ---- the description
+
+-- a type from which nothing unfit is reached, and no chain is longer than this
+pub record Fit (types : List BookType) (longest ty : ℕ) : Type 0 where
+  -- "nothing meets the list for 11": members, elements, enum bases
+  pub members : (k : ℕ) → Reach types ty k → membersSupported types (typeNo types k) ≡ true
+  pub elements : (k : ℕ) → Reach types ty k → elementSupported types (typeNo types k) ≡ true
+  pub bases : (k : ℕ) → Reach types ty k → baseSupported (typeNo types k) ≡ true
+  -- "union discriminators are .."
+  pub discriminators : (k : ℕ) → Reach types ty k → discriminatorFits types (typeNo types k) ≡ true
+  -- "the longest chain of structures, enums and unions is at most .."
+  pub chains : (n : ℕ) → Chain types ty n → n ≤ longest
+
+-- THE TYPE CHECK PASSES
+pub record Passes (types : List BookType) (root : ℕ) : Type 0 where
+  -- "root kind is 21 to 23"
+  pub kind : opens (typeNo types root .kind) ≡ true
+  pub fit : Fit types 16 root

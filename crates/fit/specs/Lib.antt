@@ -1,0 +1,5 @@
+pub mod Fit
+pub mod Shape
+pub mod Check
+pub mod Demand3
+pub mod Walk

@@ -1,0 +1,114 @@
+// What the check asks of one type by itself: a function for each clause.
+ghost use mathlib.Core.Path.{_≡_};
+ghost use Rattle.book.specs.Types.{typeNo};
+ghost use Rattle.book.specs.Places.{memberAt, typeAt, typesBy};
+ghost use Rattle.fit.specs.Fit.{memberSupported, membersSupported, elementSupported, baseSupported, chooses, discriminatorFits};
+ghost use Rattle.fit.specs.Check.{clausesMet};
+use book::index::place;
+use book::member::after;
+use book::member::members;
+use book::member::type_index;
+use book::types::bound;
+use book::types::element;
+use book::types::is_bounded;
+use reader::types::base_at;
+use reader::types::kind_at;
+
+// The kind of type number k.
+fn kind_of(book: &[u8], index: &[u32], k: usize) -> u8
+    ensures { λ r. ⌜ r ≡ typeNo (typesBy (now (book .entry)) (now (index .entry))) k .kind ⌝ }
+{
+    kind_at(book, place(book, index, k))
+}
+
+fn member_supported(book: &[u8], index: &[u32], p: usize) -> bool
+    ensures { λ r. ⌜ r ≡ memberSupported (typesBy (now (book .entry)) (now (index .entry))) (memberAt (now (book .entry)) p) ⌝ }
+{
+    !kinds::unsupported_member(kind_of(book, index, type_index(book, p)))
+}
+
+fn members_supported(book: &[u8], index: &[u32], at: usize) -> bool
+    ensures { λ r. ⌜ r ≡ membersSupported (typesBy (now (book .entry)) (now (index .entry))) (typeAt (now (book .entry)) at) ⌝ }
+{
+    if kind_at(book, at) == 21 {
+        return true;
+    }
+    let mut ms = members(book, at);
+    while 0 < ms.left {
+        let p = ms.at;
+        if !member_supported(book, index, p) {
+            return false;
+        }
+        ms = after(book, ms);
+    }
+    true
+}
+
+fn element_supported(book: &[u8], index: &[u32], at: usize) -> bool
+    ensures { λ r. ⌜ r ≡ elementSupported (typesBy (now (book .entry)) (now (index .entry))) (typeAt (now (book .entry)) at) ⌝ }
+{
+    let kind = kind_at(book, at);
+    if (kind == 25) | (kind == 26) {
+        return !kinds::unsupported_element(kind_of(book, index, element(book, at)));
+    }
+    true
+}
+
+fn base_supported(book: &[u8], at: usize) -> bool
+    ensures { λ r. ⌜ r ≡ baseSupported (typeAt (now (book .entry)) at) ⌝ }
+{
+    let kind = kind_at(book, at);
+    if kind == 21 {
+        let base = base_at(book, at);
+        return (base == 3) | (base == 4) | (base == 12);
+    }
+    true
+}
+
+// Whether a value of the type at a place may tell which member of a union follows.
+fn chooses(book: &[u8], at: usize) -> bool
+    ensures { λ r. ⌜ r ≡ chooses (typeAt (now (book .entry)) at) ⌝ }
+{
+    let kind = kind_at(book, at);
+    if kind == 19 {
+        let stored = kinds::bitmask_stored(is_bounded(book, at), bound(book, at));
+        return (stored == 13) | (stored == 6) | (stored == 7);
+    }
+    (kind == 2)
+        | (kind == 3)
+        | (kind == 4)
+        | (kind == 6)
+        | (kind == 7)
+        | (kind == 12)
+        | (kind == 13)
+        | (kind == 21)
+}
+
+fn discriminator_fits(book: &[u8], index: &[u32], at: usize) -> bool
+    ensures { λ r. ⌜ r ≡ discriminatorFits (typesBy (now (book .entry)) (now (index .entry))) (typeAt (now (book .entry)) at) ⌝ }
+{
+    if kind_at(book, at) == 23 {
+        let ms = members(book, at);
+        let p = ms.at;
+        if ms.left == 0 {
+            return false;
+        }
+        return chooses(book, place(book, index, type_index(book, p)));
+    }
+    true
+}
+
+pub fn clauses_met(book: &[u8], index: &[u32], at: usize) -> bool
+    ensures { λ r. ⌜ r ≡ clausesMet (typesBy (now (book .entry)) (now (index .entry))) (typeAt (now (book .entry)) at) ⌝ }
+{
+    if !members_supported(book, index, at) {
+        return false;
+    }
+    if !element_supported(book, index, at) {
+        return false;
+    }
+    if !base_supported(book, at) {
+        return false;
+    }
+    discriminator_fits(book, index, at)
+}

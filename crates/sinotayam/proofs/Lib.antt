@@ -1,0 +1,5 @@
+pub mod Settling
+pub mod Entries
+pub mod Preparing
+pub mod Spans
+pub mod Packing

@@ -1,0 +1,138 @@
+-- Laws of an index: what preparing leaves, how many types it holds, and that reading with it is reading with the book. Assumes nothing.
+use mathlib.Core.Path.{_≡_, refl, sym, ap, _∙_}
+use mathlib.Core.Bool.{Bool, true, false, not}
+use mathlib.Core.List.{List, [], _∷_, _++_, append-nil}
+use Prim.Native.Nat.{ℕ, zero, suc, _+_, _-_, _≤_, _<_, min}
+use native.Mathlib.Omega.{arith}
+use lib.Dec.{eqb, ltb}
+use native.Mathlib.Nat.{le-refl}
+use lib.ListN.{length, getD, take, drop, set, length-take, length-drop, drop-of-length-le}
+use lib.Seq.{take-at, take-length, getD-set-same}
+use borrow.Rule.Slice.PartMut.{putMid}
+use borrow.Author.Tests.{le-ltb, lt-ltb, eq-eqb, ne-eqb, not-true, not-false}
+use Rattle.ground.specs.Choice.{both}
+use Rattle.book.specs.Types.{BookType, typeCount, typesOf, typesFrom}
+use Rattle.book.specs.Places.{from, placesFrom, indexCount, indexed, typesBy}
+use Rattle.book.specs.Rules.{bookOk}
+use Rattle.book.proofs.Indexing.{places-spell, length-places}
+use Rattle.book.proofs.Good.{count-good}
+use Rattle.sinotayam.specs.declared.answer.Number.{Number}
+use Rattle.sinotayam.specs.declared.answer.Number.the-variants.{Read, BadBook, NoRoom}
+use Rattle.sinotayam.specs.declared.answer.Answer.{Answer}
+use Rattle.sinotayam.specs.Answer.{Result, refusedBy, Settled}
+use Rattle.sinotayam.specs.Entry.{refusedIf, withBook}
+use Rattle.sinotayam.specs.Prepared.{hasPlaces, prepareOf, preparedFrom, placesIn, withIndex}
+use Rattle.sinotayam.proofs.Settling.{settled-same}
+
+-- PREPARING
+-- the count before the places that the book's own index wrote from the second word on
+after-count : (b lent : List ℕ) (n : ℕ) (ys : List ℕ) → n ≡ typeCount b → typeCount b ≤ 64 → n < length lent → ys ≡ indexed b (take (length lent - 1) (drop 1 lent)) → set (putMid 1 (length lent - 1) lent ys) 0 n ≡ typeCount b ∷ placesFrom b 7 (typeCount b) ++ drop (suc (typeCount b)) lent
+after-count b [] n ys g few h k = absurd (omega arith)
+after-count b (x ∷ xs) n ys g few h k =
+    let l : length (x ∷ xs) - 1 ≡ length xs = omega arith in
+    let c : indexCount b (length xs) ≡ typeCount b = omega arith in
+    let e : ys ≡ placesFrom b 7 (typeCount b) ++ drop (typeCount b) xs = rw (l, take-length xs, c) at k in
+    rw (l, drop-of-length-le xs (le-refl (length xs)), append-nil, e, g)
+
+pub set-none : (l : List ℕ) (k : ℕ) → length l ≡ 0 → l ≡ set l 0 k
+set-none [] k e = refl
+set-none (x ∷ xs) k e = absurd (omega arith)
+
+module _ (b lent : List ℕ) (f : Bool) (is : f ≡ bookOk b) where
+  -- a book that breaks a rule
+  broken : not f ≡ true → bookOk b ≡ false
+  broken e = sym is ∙ not-true f e
+
+  pub prepare-bad : (r : Number) → not f ≡ true → r ≡ BadBook → r ≡ prepareOf b lent
+  unfolding prepareOf
+  prepare-bad r e g = rw (broken e) g
+
+  pub index-bad : (u : List ℕ) → not f ≡ true → u ≡ set lent 0 0 → u ≡ preparedFrom b lent
+  unfolding preparedFrom
+  index-bad u e g = rw (broken e) g
+
+  -- an index that is too short
+  kept : not f ≡ false → bookOk b ≡ true
+  kept e = sym is ∙ not-false f e
+
+  pub prepare-short : (r : Number) (n : ℕ) → not f ≡ false → n ≡ typeCount b → length lent ≤ n → r ≡ NoRoom → r ≡ prepareOf b lent
+  unfolding prepareOf hasPlaces
+  prepare-short r n e g h k = rw (kept e, le-ltb (typeCount b) (length lent) (omega arith)) k
+
+  pub index-short : (u : List ℕ) (n : ℕ) → not f ≡ false → n ≡ typeCount b → length lent ≤ n → u ≡ set lent 0 0 → u ≡ preparedFrom b lent
+  unfolding preparedFrom hasPlaces
+  index-short u n e g h k = rw (kept e, le-ltb (typeCount b) (length lent) (omega arith)) k
+
+  -- an index with all places
+  pub prepare-good : (n : ℕ) → not f ≡ false → n ≡ typeCount b → n < length lent → Read ≡ prepareOf b lent
+  unfolding prepareOf hasPlaces
+  prepare-good n e g h = rw (kept e, lt-ltb (typeCount b) (length lent) (omega arith))
+
+  pub index-good : (n : ℕ) (ys : List ℕ) → not f ≡ false → n ≡ typeCount b → n < length lent → ys ≡ indexed b (take (length lent - 1) (drop 1 lent)) → set (putMid 1 (length lent - 1) lent ys) 0 n ≡ preparedFrom b lent
+  unfolding preparedFrom hasPlaces
+  index-good n ys e g h k =
+      rw (kept e, lt-ltb (typeCount b) (length lent) (omega arith)) (after-count b lent n ys g (count-good b (kept e) .1) h k)
+
+-- HOW MANY TYPES AN INDEX HOLDS
+module _ (index : List ℕ) where
+  pub count-none : length index ≡ 0 → 0 ≡ length (placesIn index)
+  unfolding placesIn
+  count-none e = simp (length-take, length-drop) (omega arith)
+
+  pub count-all : (n : ℕ) → n ≡ getD index 0 0 → length index - 1 < n → length index - 1 ≡ length (placesIn index)
+  unfolding placesIn
+  count-all n e h = simp (length-take, length-drop) (omega arith)
+
+  pub count-said : (n : ℕ) → n ≡ getD index 0 0 → n ≤ length index - 1 → n ≡ length (placesIn index)
+  unfolding placesIn
+  count-said n e h = simp (length-take, length-drop) (omega arith)
+
+-- READING WITH AN INDEX
+take-taken : (k : ℕ) (l : List ℕ) → take (length (take k l)) l ≡ take k l
+take-taken zero l = refl
+take-taken (suc k) [] = refl
+take-taken (suc k) (x ∷ xs) = ap (λ (l : List ℕ). x ∷ l) (take-taken k xs)
+
+-- the code lends the words after the first
+places-part : (index : List ℕ) (n : ℕ) → n ≡ length (placesIn index) → take (n + 1 - 1) (drop 1 index) ≡ placesIn index
+unfolding placesIn
+places-part index n is =
+    let k : n + 1 - 1 ≡ length (take (getD index 0 0) (drop 1 index)) = omega arith in
+    rw k (take-taken (getD index 0 0) (drop 1 index))
+
+module _ (b index : List ℕ) (next : List BookType → Result) (n : ℕ) (is : n ≡ length (placesIn index)) (t v : List ℕ) (r : Answer) where
+  pub index-none : n ≡ 0 → Settled (refusedBy BadBook) t v r → Settled (withIndex b index next) t v r
+  unfolding withIndex refusedIf
+  index-none e d = settled-same (rw (eq-eqb (length (placesIn index)) 0 (sym is ∙ e))) d
+
+  pub index-some : (n ≡ 0 → ⊥) → Settled (next (typesBy b (take (n + 1 - 1) (drop 1 index)))) t v r → Settled (withIndex b index next) t v r
+  unfolding withIndex refusedIf
+  index-some h d =
+      settled-same (rw (ne-eqb (length (placesIn index)) 0 (λ (z : length (placesIn index) ≡ 0). h (is ∙ z))))
+      (rw (places-part index n is) at d)
+
+-- PREPARED READING IS READING: with what `prepare` leaves of a book in an index of 65 words or more
+module _ (b lent : List ℕ) (next : List BookType → Result) (long : 64 < length lent) where
+  same-bad : bookOk b ≡ false → withIndex b (preparedFrom b lent) next ≡ withBook b next
+  unfolding withIndex withBook preparedFrom placesIn refusedIf
+  same-bad e =
+      let z : getD (set lent 0 0) 0 0 ≡ 0 = getD-set-same lent 0 0 0 (omega arith) in
+      rw (e, z)
+
+  same-good : bookOk b ≡ true → withIndex b (preparedFrom b lent) next ≡ withBook b next
+  unfolding withIndex withBook preparedFrom hasPlaces placesIn refusedIf typesOf from
+  same-good e =
+      let few : (1 ≤ typeCount b) × (typeCount b ≤ 64) = count-good b e in
+      let k : take (typeCount b) (placesFrom b 7 (typeCount b) ++ drop (suc (typeCount b)) lent) ≡ placesFrom b 7 (typeCount b) = take-at (placesFrom b 7 (typeCount b)) (drop (suc (typeCount b)) lent) (typeCount b) (length-places b 7 (typeCount b)) in
+      rw (e, lt-ltb (typeCount b) (length lent) (omega arith), k, length-places b 7 (typeCount b), ne-eqb (typeCount b) 0 (omega arith))
+      (ap next (places-spell b 7 (typeCount b)))
+
+  pub prepared-same : withIndex b (preparedFrom b lent) next ≡ withBook b next
+  prepared-same = by-book (bookOk b) refl
+    where
+      by-book : (f : Bool) → bookOk b ≡ f → withIndex b (preparedFrom b lent) next ≡ withBook b next
+      by-book true e = same-good e
+      by-book false e = same-bad e
+
+pub read-same : (b lent u : List ℕ) (next : List BookType → Result) (t v : List ℕ) (r : Answer) → 64 < length lent → u ≡ preparedFrom b lent → Settled (withIndex b u next) t v r → Settled (withBook b next) t v r
+read-same b lent u next t v r h e d = settled-same (sym (prepared-same b lent next h)) (rw e at d)

@@ -1,0 +1,20 @@
+use Rattle.sinotayam.proofs.Packing.{returned}
+use borrow.Author.Needs.{needs}
+use Rattle.sinotayam.proofs.c.sinotayam_read_prepared.Statement.{statement}
+use Rattle.sinotayam.proofs.c.sinotayam_read_prepared.Tie as tie
+
+read-prepared-requires : tie.Need-read-prepared-requires
+read-prepared-requires c κs = search needs
+
+pack-requires : tie.Need-pack-requires
+pack-requires c κs = search needs
+
+same-length : tie.Need-same-length
+same-length c = search needs
+
+returns : tie.Need-returns
+returns c = search (needs, returned)
+
+pub sinotayam-read-prepared-spec : {M : Type 1} → statement M
+sinotayam-read-prepared-spec =
+    tie.close (tie.spec read-prepared-requires pack-requires same-length returns)

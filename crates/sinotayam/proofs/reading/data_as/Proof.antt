@@ -1,0 +1,69 @@
+use Rattle.sinotayam.proofs.Settling.{whole-fits, whole-read, whole-short, whole-refused}
+use borrow.Author.Needs.{needs}
+use Rattle.sinotayam.proofs.reading.data_as.Statement.{statement}
+use Rattle.sinotayam.proofs.reading.data_as.Tie as tie
+
+new-requires : tie.Need-new-requires
+new-requires c κs = search needs
+
+as-nested-requires : tie.Need-as-nested-requires
+as-nested-requires c κs = search needs
+
+enum-known-rows : tie.Need-enum-known-rows
+enum-known-rows c = search needs
+
+clear-after-requires : tie.Need-clear-after-requires
+clear-after-requires c κs = search (needs, whole-fits)
+
+enum-told : tie.Need-enum-told
+enum-told c = search needs
+
+refused-requires : tie.Need-refused-requires
+refused-requires c κs = search needs
+
+enum-known-k : tie.Need-enum-known-k
+enum-known-k c = search needs
+
+of-refusal-requires : tie.Need-of-refusal-requires
+of-refusal-requires c κs = search needs
+
+refused-requires-2 : tie.Need-refused-requires-2
+refused-requires-2 c κs = search needs
+
+same-length : tie.Need-same-length
+same-length c = search needs
+
+returns : tie.Need-returns
+returns c = search (needs, whole-read)
+
+same-length-2 : tie.Need-same-length-2
+same-length-2 c = search needs
+
+returns-2 : tie.Need-returns-2
+returns-2 c = search (needs, whole-short)
+
+same-length-3 : tie.Need-same-length-3
+same-length-3 c = search needs
+
+returns-3 : tie.Need-returns-3
+returns-3 c = search (needs, whole-refused)
+
+pub data-as-spec : {M : Type 1} → statement M
+data-as-spec =
+    tie.close
+    (tie.spec
+    new-requires
+    as-nested-requires
+    enum-known-rows
+    clear-after-requires
+    enum-told
+    refused-requires
+    enum-known-k
+    of-refusal-requires
+    refused-requires-2
+    same-length
+    returns
+    same-length-2
+    returns-2
+    same-length-3
+    returns-3)

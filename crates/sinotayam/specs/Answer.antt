@@ -1,0 +1,76 @@
+-- What a call gives back: a number of document 01's table, and rows.
+use Prim.Native.Nat.{ℕ, _+_, _-_, _*_, _%_, _^_}
+use mathlib.Core.Path.{_≡_}
+use mathlib.Core.List.{List, [], _++_}
+use lib.ListN.{length, replicate}
+use Rattle.table.specs.declared.rows.Row.{Row}
+use Rattle.table.specs.declared.out.Refusal.{Refusal}
+use Rattle.table.specs.declared.out.Refusal.the-variants as refusal
+use Rattle.table.specs.Rows.{width, words}
+use Rattle.table.specs.Outcome.{Outcome, read, short, refused}
+use Rattle.sinotayam.specs.declared.answer.Number.{Number}
+use Rattle.sinotayam.specs.declared.answer.Number.the-variants.{Read, NotEnoughData, InvalidData, InvalidType, PidNotFound, BadBook, BadRoot, TooLong, Unsupported, TooDeep, NoRoom, NoDiscriminator, NotText, Unfit}
+use Rattle.sinotayam.specs.declared.answer.Answer.{Answer}
+
+-- "Numbers given back"
+unfoldable pub codeOf : Number → ℕ
+codeOf Read = 0
+codeOf NotEnoughData = 1
+codeOf InvalidData = 2
+codeOf InvalidType = 3
+codeOf PidNotFound = 4
+codeOf BadBook = 8
+codeOf BadRoot = 9
+codeOf TooLong = 10
+codeOf Unsupported = 11
+codeOf TooDeep = 12
+codeOf NoRoom = 13
+codeOf NoDiscriminator = 14
+codeOf NotText = 15
+codeOf Unfit = 16
+
+-- why a value was refused, as one of these numbers
+unfoldable pub refusalOf : Refusal → Number
+refusalOf refusal.InvalidData = InvalidData
+refusalOf refusal.InvalidType = InvalidType
+refusalOf refusal.Unsupported = Unsupported
+refusalOf refusal.TooDeep = TooDeep
+refusalOf refusal.NoRoom = NoRoom
+refusalOf refusal.NoDiscriminator = NoDiscriminator
+
+-- what a call comes to
+pub record Result : Type 0 where
+  pub number : Number
+  pub rows : List Row
+
+abbrev pub finished : List Row → Result
+finished rs = record { number = Read; rows = rs }
+
+-- "Every refused reading returns 0 rows"
+abbrev pub refusedBy : Number → Result
+refusedBy n = record { number = n; rows = [] }
+
+unfoldable pub resultOf : Outcome → Result
+resultOf (read c rs) = finished rs
+resultOf (short x) = refusedBy NotEnoughData
+resultOf (refused k) = refusedBy (refusalOf k)
+
+-- these rows, and zeros after them to the table's end.
+-- "Every refused reading returns 0 rows and the whole table zero. A finished one leaves zero after its last row."
+abbrev pub tableOf : List ℕ → List Row → List ℕ
+tableOf lent rs = words rs ++ replicate (length lent - width * length rs) 0
+
+-- the number, the count of rows, and every word of the lent table
+pub record Settled (w : Result) (before after : List ℕ) (r : Answer) : Type 0 where
+  pub number : r .number ≡ w .number
+  pub count : r .rows ≡ length (w .rows)
+  pub table : after ≡ tableOf before (w .rows)
+
+-- the number and the count in one word: rows * 256 + number. The count has 56 bits there; more rows would be 2 ^ 61 bytes of table
+abbrev pub packed : Number → ℕ → ℕ
+packed number rows = rows % 2 ^ 56 * 256 + codeOf number
+
+-- the word, and every word of the lent table
+pub record Returned (w : Result) (before after : List ℕ) (r : ℕ) : Type 0 where
+  pub word : r ≡ packed (w .number) (length (w .rows))
+  pub table : after ≡ tableOf before (w .rows)

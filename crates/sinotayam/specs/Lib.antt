@@ -1,0 +1,4 @@
+pub mod Answer
+pub mod Entry
+pub mod Prepared
+pub mod Text

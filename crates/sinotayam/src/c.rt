@@ -1,0 +1,63 @@
+// The calls for C and Rust: include/sinotayam.h declares them. A slice is a pointer and a length there. Nothing is required of any.
+ghost use mathlib.Core.Path.{_≡_};
+ghost use Rattle.table.specs.Rows.{capacity};
+ghost use Rattle.fit.specs.Check.{checkOf};
+ghost use Rattle.sinotayam.specs.Answer.{codeOf, packed, Returned};
+ghost use Rattle.sinotayam.specs.Entry.{readOf};
+ghost use Rattle.sinotayam.specs.Prepared.{prepareOf, preparedFrom, readPrepared};
+ghost use Rattle.sinotayam.specs.Text.{textNumber};
+use crate::answer::Answer;
+use crate::prepared::prepare;
+use crate::read;
+use crate::read_prepared;
+use crate::texts::text_number;
+
+fn pack(a: Answer) -> u64
+    ensures { λ r. ⌜ r ≡ packed (a .number) (a .rows) ⌝ }
+{
+    let number = a.number;
+    let rows = a.rows as u64;
+    rows % 72057594037927936 * 256 + ground::wide(number.code())
+}
+
+#[no_mangle]
+pub extern "C" fn sinotayam_read(book: &[u8], root: u16, message: &[u8], table: &mut [u64]) -> u64
+    ensures { λ r. ⌜ Returned (readOf (now (book .entry)) root (now (message .entry)) (capacity (now (table .entry)))) (now (table .entry)) (now (table .exit)) r ⌝ }
+{
+    pack(read(book, root as usize, message, table))
+}
+
+// The type check: 0, 8, 9 or 16.
+#[no_mangle]
+pub extern "C" fn sinotayam_check(book: &[u8], root: u16) -> u8
+    ensures { λ r. ⌜ r ≡ checkOf (now (book .entry)) root ⌝ }
+{
+    fit::check(book, root as usize)
+}
+
+#[no_mangle]
+pub extern "C" fn sinotayam_prepare(book: &[u8], index: &mut [u32]) -> u8
+    ensures { λ r. ⌜ (r ≡ codeOf (prepareOf (now (book .entry)) (now (index .entry)))) × (now (index .exit) ≡ preparedFrom (now (book .entry)) (now (index .entry))) ⌝ }
+{
+    prepare(book, index).code()
+}
+
+#[no_mangle]
+pub extern "C" fn sinotayam_read_prepared(
+    book: &[u8],
+    index: &[u32],
+    root: u16,
+    message: &[u8],
+    table: &mut [u64],
+) -> u64
+    ensures { λ r. ⌜ Returned (readPrepared (now (book .entry)) (now (index .entry)) root (now (message .entry)) (capacity (now (table .entry)))) (now (table .entry)) (now (table .exit)) r ⌝ }
+{
+    pack(read_prepared(book, index, root as usize, message, table))
+}
+
+#[no_mangle]
+pub extern "C" fn sinotayam_text(table: &[u64], row: usize, s: &[u8]) -> u8
+    ensures { λ r. ⌜ r ≡ codeOf (textNumber (now (table .entry)) row (now (s .entry))) ⌝ }
+{
+    text_number(table, row, s).code()
+}

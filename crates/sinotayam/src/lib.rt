@@ -1,0 +1,97 @@
+// Reading a message of a book's type into value rows. Nothing is required of a book, a root, a message or a table: every input has its
+// answer, and the answer settles every word of the lent table.
+ghost use mathlib.Core.Path.{_≡_};
+ghost use Rattle.book.specs.Places.{typesBy};
+ghost use Rattle.table.specs.Rows.{capacity};
+ghost use Rattle.sinotayam.specs.Answer.{Settled};
+ghost use Rattle.sinotayam.specs.Entry.{messageBy, readOf, readDataOf};
+ghost use Rattle.sinotayam.specs.Prepared.{readPrepared, readDataPrepared};
+
+pub mod answer;
+pub mod c;
+pub mod prepared;
+pub mod reading;
+pub mod texts;
+
+use crate::answer::Answer;
+use crate::answer::Number;
+use crate::answer::refused;
+use crate::prepared::WORDS;
+use crate::prepared::count;
+use crate::prepared::prepare;
+use crate::reading::HEADER;
+use crate::reading::LONGEST;
+use crate::reading::data_by;
+use crate::reading::identified;
+
+// A message of one of the types at these places.
+fn message_by(book: &[u8], places: &[u32], root: usize, message: &[u8], table: &mut [u64]) -> Answer
+    ensures { λ r. ⌜ Settled (messageBy (typesBy (now (book .entry)) (now (places .entry))) root (now (message .entry)) (capacity (now (table .entry)))) (now (table .entry)) (now (table .exit)) r ⌝ }
+{
+    if places.len() <= root {
+        return refused(table, Number::BadRoot);
+    }
+    if LONGEST < message.len() {
+        return refused(table, Number::TooLong);
+    }
+    if message.len() < HEADER {
+        return refused(table, Number::NotEnoughData);
+    }
+    let id = [message[0], message[1]];
+    identified(book, places, root, id, &message[HEADER..], table)
+}
+
+// Reads a message with an index that `prepare` made. The book is not judged again: of another index the answer is what the rules say of
+// the types that it points to.
+pub fn read_prepared(
+    book: &[u8],
+    index: &[u32],
+    root: usize,
+    message: &[u8],
+    table: &mut [u64],
+) -> Answer
+    ensures { λ r. ⌜ Settled (readPrepared (now (book .entry)) (now (index .entry)) root (now (message .entry)) (capacity (now (table .entry)))) (now (table .entry)) (now (table .exit)) r ⌝ }
+{
+    let n = count(index);
+    if n == 0 {
+        return refused(table, Number::BadBook);
+    }
+    let end = n + 1;
+    message_by(book, &index[1..end], root, message, table)
+}
+
+pub fn read_data_prepared(
+    book: &[u8],
+    index: &[u32],
+    root: usize,
+    id: [u8; 2],
+    s: &[u8],
+    table: &mut [u64],
+) -> Answer
+    ensures { λ r. ⌜ Settled (readDataPrepared (now (book .entry)) (now (index .entry)) root id (now (s .entry)) (capacity (now (table .entry)))) (now (table .entry)) (now (table .exit)) r ⌝ }
+{
+    let n = count(index);
+    if n == 0 {
+        return refused(table, Number::BadBook);
+    }
+    let end = n + 1;
+    data_by(book, &index[1..end], root, id, s, table)
+}
+
+// Reads a message: the Rust's deserialize_top_level_type.
+pub fn read(book: &[u8], root: usize, message: &[u8], table: &mut [u64]) -> Answer
+    ensures { λ r. ⌜ Settled (readOf (now (book .entry)) root (now (message .entry)) (capacity (now (table .entry)))) (now (table .entry)) (now (table .exit)) r ⌝ }
+{
+    let mut index = [0u32; WORDS];
+    prepare(book, &mut index);
+    read_prepared(book, &index, root, message, table)
+}
+
+// Reads data whose identifier is known: the Rust's deserialize_top_level_type_from_representation_identifier.
+pub fn read_data(book: &[u8], root: usize, id: [u8; 2], s: &[u8], table: &mut [u64]) -> Answer
+    ensures { λ r. ⌜ Settled (readDataOf (now (book .entry)) root id (now (s .entry)) (capacity (now (table .entry)))) (now (table .entry)) (now (table .exit)) r ⌝ }
+{
+    let mut index = [0u32; WORDS];
+    prepare(book, &mut index);
+    read_data_prepared(book, &index, root, id, s, table)
+}

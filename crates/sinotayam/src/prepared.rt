@@ -1,0 +1,60 @@
+// A book judged once, and its index, with which messages are read many times.
+ghost use mathlib.Core.Path.{_≡_};
+ghost use Prim.Native.Nat.{_-_, _≤_};
+ghost use lib.ListN.{length, set};
+ghost use Rattle.sinotayam.specs.Prepared.{prepareOf, preparedFrom, placesIn};
+use crate::answer::Number;
+use book::index::index;
+use book::judge::judge;
+use book::types::type_count;
+
+// The words that the index of any book has room in.
+pub const WORDS: usize = 65;
+
+// Leaves an index of no types.
+fn unprepared(lent: &mut [u32], number: Number) -> Number
+    ensures { λ r. ⌜ (r ≡ number) × (now (lent .exit) ≡ set (now (lent .entry)) 0 0) ⌝ }
+{
+    if lent.len() == 0 {
+        return number;
+    }
+    lent[0] = 0;
+    number
+}
+
+// Judges a book, and fills the lent index for `read_prepared`. A refused book, and an index that is too short, leave an index of no types,
+// with which every reading is refused.
+pub fn prepare(book: &[u8], lent: &mut [u32]) -> Number
+    ensures { λ r. ⌜ (r ≡ prepareOf (now (book .entry)) (now (lent .entry))) × (now (lent .exit) ≡ preparedFrom (now (book .entry)) (now (lent .entry))) ⌝ }
+{
+    if !judge(book) {
+        return unprepared(lent, Number::BadBook);
+    }
+    let n = type_count(book);
+    if lent.len() <= n {
+        return unprepared(lent, Number::NoRoom);
+    }
+    index(book, &mut lent[1..]);
+    lent[0] = n as u32;
+    Number::Read
+}
+
+fn widen(x: u32) -> usize
+    ensures { λ r. ⌜ r ≡ x ⌝ }
+{
+    x as usize
+}
+
+// How many types an index holds: as many as it says, and no more than it has.
+pub fn count(index: &[u32]) -> usize
+    ensures { λ r. ⌜ (r ≡ length (placesIn (now (index .entry)))) × (r ≤ length (now (index .entry)) - 1) ⌝ }
+{
+    if index.len() == 0 {
+        return 0;
+    }
+    let n = widen(index[0]);
+    if index.len() - 1 < n {
+        return index.len() - 1;
+    }
+    n
+}

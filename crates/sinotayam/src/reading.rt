@@ -1,0 +1,100 @@
+// Reading data by the places of a book's types.
+ghost use mathlib.Core.Path.{_≡_};
+ghost use lib.ListN.{getD};
+ghost use Rattle.wire.specs.Identifier.{settingsOf};
+ghost use Rattle.book.specs.Places.{typesBy};
+ghost use Rattle.reader.specs.Nested.{reading};
+ghost use Rattle.table.specs.Rows.{capacity};
+ghost use Rattle.sinotayam.specs.Answer.{resultOf, Settled};
+ghost use Rattle.sinotayam.specs.Entry.{byIdentifier, messageBy, dataBy};
+use crate::answer::Answer;
+use crate::answer::Number;
+use crate::answer::refused;
+use reader::as_nested;
+use table::out::Out;
+use table::rows::clear_after;
+use wire::cursor::Cursor;
+use wire::settings::Representation;
+use wire::settings::Settings;
+use wire::settings::settings_of;
+
+// The longest message.
+pub const LONGEST: usize = 65536;
+
+// The bytes before a message's data: its identifier and its options.
+pub const HEADER: usize = 4;
+
+// How many values may be opened one in the other; the root is the first.
+const DEPTH: usize = 16;
+
+// Reads data that is written as `set` says: the rows, and zeros after the last.
+fn data_as(
+    book: &[u8],
+    places: &[u32],
+    root: usize,
+    set: Settings,
+    s: &[u8],
+    table: &mut [u64],
+) -> Answer
+    ensures { λ r. ⌜ Settled (resultOf (reading (typesBy (now (book .entry)) (now (places .entry))) (now (s .entry)) set root (capacity (now (table .entry))))) (now (table .entry)) (now (table .exit)) r ⌝ }
+{
+    match as_nested(
+        book,
+        places,
+        s,
+        set,
+        table,
+        root,
+        0,
+        Cursor::new(0, 0),
+        0,
+        DEPTH,
+    ) {
+        Out::Read(_, rows) => {
+            clear_after(table, rows);
+            Answer {
+                number: Number::Read,
+                rows,
+            }
+        }
+        Out::Short(_) => refused(table, Number::NotEnoughData),
+        Out::Refused(k) => refused(table, Number::of_refusal(k)),
+    }
+}
+
+// By the identifier: unknown, or the reading.
+pub fn identified(
+    book: &[u8],
+    places: &[u32],
+    root: usize,
+    id: [u8; 2],
+    s: &[u8],
+    table: &mut [u64],
+) -> Answer
+    ensures { λ r. ⌜ Settled (byIdentifier (typesBy (now (book .entry)) (now (places .entry))) root (now (s .entry)) (capacity (now (table .entry))) (settingsOf (getD id 0 0) (getD id 1 0))) (now (table .entry)) (now (table .exit)) r ⌝ }
+{
+    match settings_of(id) {
+        Representation::Known(set) => data_as(book, places, root, set, s, table),
+        Representation::Unknown => refused(table, Number::InvalidData),
+    }
+}
+
+// Data whose identifier is known, of one of the types at these places.
+pub fn data_by(
+    book: &[u8],
+    places: &[u32],
+    root: usize,
+    id: [u8; 2],
+    s: &[u8],
+    table: &mut [u64],
+) -> Answer
+    ensures { λ r. ⌜ Settled (dataBy (typesBy (now (book .entry)) (now (places .entry))) root id (now (s .entry)) (capacity (now (table .entry)))) (now (table .entry)) (now (table .exit)) r ⌝ }
+{
+    if places.len() <= root {
+        return refused(table, Number::BadRoot);
+    }
+    if LONGEST - HEADER < s.len() {
+        return refused(table, Number::TooLong);
+    }
+    identified(book, places, root, id, s, table)
+}

@@ -1,0 +1,67 @@
+// The text call: the part of the data that a text row points to.
+ghost use mathlib.Core.Path.{_≡_};
+ghost use lib.ListN.{length};
+ghost use Rattle.sinotayam.specs.Text.{spanOf, spanIn, textOf, textNumber};
+use crate::answer::Number;
+use table::rows::Row;
+use table::rows::row_at;
+
+// Where a text stands in the data: its start, and how many bytes.
+pub enum Span {
+    At(usize, usize),
+    Nothing,
+}
+
+// Each test stands before the sum that it allows: a row may hold any words.
+fn span_of(r: Row, size: usize) -> Span
+    ensures { λ x. ⌜ x ≡ spanOf r size ⌝ }
+{
+    let kind = r.kind;
+    let start = r.a as usize;
+    let units = r.b as usize;
+    if !((kind == 16) | (kind == 17)) {
+        return Span::Nothing;
+    }
+    if size < start {
+        return Span::Nothing;
+    }
+    if size - start < units {
+        return Span::Nothing;
+    }
+    if kind == 16 {
+        return Span::At(start, units);
+    }
+    if size - start - units < units {
+        return Span::Nothing;
+    }
+    Span::At(start, units + units)
+}
+
+fn span_in(table: &[u64], row: usize, s: &[u8]) -> Span
+    ensures { λ x. ⌜ x ≡ spanIn (now (table .entry)) row (now (s .entry)) ⌝ }
+{
+    span_of(row_at(table, row), s.len())
+}
+
+// The text of a row: that very part of the data, or an empty part.
+pub fn text<'a>(table: &[u64], row: usize, s: &'a [u8]) -> &'a [u8]
+    ensures { λ r. ⌜ now r ≡ textOf (now (table .entry)) row (now (s .entry)) ⌝ }
+{
+    match span_in(table, row, s) {
+        Span::At(start, n) => {
+            let end = start + n;
+            &s[start..end]
+        }
+        Span::Nothing => &s[0..0],
+    }
+}
+
+// Which of the two it is: Read or NotText.
+pub fn text_number(table: &[u64], row: usize, s: &[u8]) -> Number
+    ensures { λ r. ⌜ r ≡ textNumber (now (table .entry)) row (now (s .entry)) ⌝ }
+{
+    match span_in(table, row, s) {
+        Span::At(_, _) => Number::Read,
+        Span::Nothing => Number::NotText,
+    }
+}
