@@ -3,3 +3,4 @@ pub mod Entries
 pub mod Preparing
 pub mod Spans
 pub mod Packing
+pub mod Demand3

@@ -2,3 +2,4 @@ pub mod Answer
 pub mod Entry
 pub mod Prepared
 pub mod Text
+pub mod Demand3
