@@ -9,9 +9,9 @@ use Rattle.reader.proofs.NestedSteps.{body-enum, body-first, body-secon
 
 pub ruleset complex-laws = (complex-start, complex-turn, complex-short, complex-refused, complex-end)
 
-pub ruleset sequence-elements-laws = (elements-unsupported, elements-full, elements-complex, elements-block, elements-list, row-fits, row-next)
+pub ruleset elements-laws = (elements-unsupported, elements-full, elements-complex, elements-block, elements-list, row-fits, row-next)
 
-pub ruleset list-type-laws = (list-short, list-got)
+pub ruleset listed-laws = (list-short, list-got)
 
 pub ruleset value-laws = (value-none, value-unsupported, value-nested, value-list, value-scalar)
 
@@ -19,23 +19,23 @@ pub ruleset found-laws = (found-length, found-value)
 
 pub ruleset mmember-laws = (mmember-short, mmember-absent, mmember-read, mmember-fell, mmember-refused)
 
-pub ruleset opt-fmember-laws = (optional-looked, optional-short, optional-bad, optional-absent, optional-present)
+pub ruleset optional-laws = (optional-looked, optional-short, optional-bad, optional-absent, optional-present)
 
 pub ruleset fmember-laws = (fmember-optional, fmember-value)
 
-pub ruleset fstruct-type-laws = (fstruct-start, fstruct-turn, fstruct-ended, fstruct-short, fstruct-refused, fstruct-end)
+pub ruleset fstruct-laws = (fstruct-start, fstruct-turn, fstruct-ended, fstruct-short, fstruct-refused, fstruct-end)
 
 pub ruleset mmembers-laws = (mmembers-start, mmembers-turn, mmembers-short, mmembers-refused, mmembers-end)
 
-pub ruleset mstruct-v1-laws = (first-read, first-lost, first-short, first-refused)
+pub ruleset mstruct1-laws = (first-read, first-lost, first-short, first-refused)
 
-pub ruleset mstruct-v2-laws = (second-none, second-read, second-short, second-refused)
+pub ruleset mstruct2-laws = (second-none, second-read, second-short, second-refused)
 
 pub ruleset selected-laws = (selected-absent, selected-unfit, selected-none, selected-looked, selected-plain)
 
-pub ruleset funion-type-laws = (union-empty, funion-short, funion-refused, funion-read)
+pub ruleset funion-laws = (union-empty, funion-short, funion-refused, funion-read)
 
-pub ruleset munion-type-laws = (union-empty, munion-short, munion-refused, munion-read)
+pub ruleset munion-laws = (union-empty, munion-short, munion-refused, munion-read)
 
 pub ruleset body-laws = (body-enum, body-first, body-second, body-munion, body-short, body-fstruct, body-funion)
 

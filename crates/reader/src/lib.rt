@@ -94,25 +94,25 @@ pub fn body(
         if kind == 22 {
             let version = set.version;
             return match version {
-                Version::Xcdr1 => mstruct_v1(book, index, s, set, t, at, c, n, depth),
-                Version::Xcdr2 => mstruct_v2(book, index, s, set, t, at, c, n, depth),
+                Version::Xcdr1 => mstruct1(book, index, s, set, t, at, c, n, depth),
+                Version::Xcdr2 => mstruct2(book, index, s, set, t, at, c, n, depth),
             };
         }
-        return union::munion_type(book, index, s, set, t, at, c, n, depth);
+        return union::munion(book, index, s, set, t, at, c, n, depth);
     }
     match types::contents_at(book, s, set, at, c) {
         Place::Short(x) => Out::Short(x),
         Place::At(d) => {
             if kind == 22 {
-                return fstruct_type(book, index, s, set, t, at, d, n, depth);
+                return fstruct(book, index, s, set, t, at, d, n, depth);
             }
-            union::funion_type(book, index, s, set, t, at, d, n, depth)
+            union::funion(book, index, s, set, t, at, d, n, depth)
         }
     }
 }
 
 // Serialization rule 17: the members of a Final or Appendable structure. Too few bytes may end it as read.
-pub fn fstruct_type(
+pub fn fstruct(
     book: &[u8],
     index: &[u32],
     s: &[u8],
@@ -188,7 +188,7 @@ pub fn mmembers(
 }
 
 // Serialization rule 23: a Mutable structure of XCDR1, up to its end marker.
-pub fn mstruct_v1(
+pub fn mstruct1(
     book: &[u8],
     index: &[u32],
     s: &[u8],
@@ -212,7 +212,7 @@ pub fn mstruct_v1(
 }
 
 // Serialization rule 21: a Mutable structure of XCDR2. It ends where its DHEADER says, wherever its members were.
-pub fn mstruct_v2(
+pub fn mstruct2(
     book: &[u8],
     index: &[u32],
     s: &[u8],

@@ -6,7 +6,7 @@ ghost use Rattle.table.specs.Outcome.{Done};
 ghost use Rattle.reader.specs.Cycle.{foundIn, mmemberIn, optionalIn, fmemberIn};
 use crate::types::by_length;
 use crate::types::element_count;
-use crate::value::sequence_elements;
+use crate::value::elements;
 use crate::value::value;
 use book::index::place;
 use book::member::id;
@@ -37,7 +37,7 @@ pub fn fmember(
     ensures { λ r. ⌜ Done (fmemberIn (now (book .entry)) (now (index .entry)) (now (s .entry)) set depth (memberAt (now (book .entry)) p) c (room (now (t .entry)) n)) n (now (t .entry)) (now (t .exit)) r ⌝ }
 {
     if is_optional(book, p) {
-        return opt_fmember(book, index, s, set, t, p, c, n, depth);
+        return optional(book, index, s, set, t, p, c, n, depth);
     }
     value(
         book,
@@ -54,7 +54,7 @@ pub fn fmember(
 }
 
 // Serialization rules 19 and 20: an optional member of a Final or Appendable type. XCDR1 looks it up, XCDR2 asks a boolean.
-pub fn opt_fmember(
+pub fn optional(
     book: &[u8],
     index: &[u32],
     s: &[u8],
@@ -150,7 +150,7 @@ pub fn found(
     let q = place(book, index, ty);
     if by_length(book, index, version, q) {
         let count = element_count(book, index, q, length);
-        return sequence_elements(
+        return elements(
             book,
             index,
             s,

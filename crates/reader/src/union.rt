@@ -23,7 +23,7 @@ use wire::cursor::Cursor;
 use wire::settings::Settings;
 
 // Serialization rule 26: a Final or Appendable union, whose type is at `at`.
-pub fn funion_type(
+pub fn funion(
     book: &[u8],
     index: &[u32],
     s: &[u8],
@@ -63,7 +63,7 @@ pub fn funion_type(
 }
 
 // Serialization rules 27 and 28: a Mutable union, whose type is at `at`.
-pub fn munion_type(
+pub fn munion(
     book: &[u8],
     index: &[u32],
     s: &[u8],

@@ -52,13 +52,13 @@ pub fn value(
         return as_nested(book, index, s, set, t, ty, id, c, n, depth);
     }
     if (kind == 25) | (kind == 26) {
-        return list_type(book, index, s, set, t, p, id, c, n, depth);
+        return listed(book, index, s, set, t, p, id, c, n, depth);
     }
     scalar(s, set, t, read_as(book, p), id, c, n)
 }
 
 // Serialization rules 8 to 13: a sequence or an array, whose type is at `at`.
-pub fn list_type(
+pub fn listed(
     book: &[u8],
     index: &[u32],
     s: &[u8],
@@ -76,7 +76,7 @@ pub fn list_type(
     let sequence = is_sequence(book, at);
     match count_from(s, set, primitive, sequence, bound(book, at) as u64, c) {
         Number::Short(x) => Out::Short(x),
-        Number::Got(count, first) => sequence_elements(
+        Number::Got(count, first) => elements(
             book,
             index,
             s,
@@ -93,7 +93,7 @@ pub fn list_type(
 }
 
 // The elements of a list, by their type.
-pub fn sequence_elements(
+pub fn elements(
     book: &[u8],
     index: &[u32],
     s: &[u8],

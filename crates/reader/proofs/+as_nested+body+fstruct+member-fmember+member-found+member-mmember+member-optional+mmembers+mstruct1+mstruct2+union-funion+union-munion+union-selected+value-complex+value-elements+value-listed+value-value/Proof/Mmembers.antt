@@ -6,8 +6,8 @@ use Rattle.reader.proofs.StructureSteps.{LookedSofar}
 use borrow.Author.Needs.{needs}
 use Prim.Native.Nat.{ℕ}
 use Rattle.reader.proofs.mmembers.Reads as mmembers
-use Rattle.reader.proofs.+as_nested+body+fstruct_type+member-fmember+member-found+member-mmember+member-opt_fmember+mmembers+mstruct_v1+mstruct_v2+union-funion_type+union-munion_type+union-selected+value-complex+value-list_type+value-sequence_elements+value-value.Lts-mmembers as lts
-use Rattle.reader.proofs.+as_nested+body+fstruct_type+member-fmember+member-found+member-mmember+member-opt_fmember+mmembers+mstruct_v1+mstruct_v2+union-funion_type+union-munion_type+union-selected+value-complex+value-list_type+value-sequence_elements+value-value.Proof.Base.{mmembers-at, member·mmember-below}
+use Rattle.reader.proofs.+as_nested+body+fstruct+member-fmember+member-found+member-mmember+member-optional+mmembers+mstruct1+mstruct2+union-funion+union-munion+union-selected+value-complex+value-elements+value-listed+value-value.Lts-mmembers as lts
+use Rattle.reader.proofs.+as_nested+body+fstruct+member-fmember+member-found+member-mmember+member-optional+mmembers+mstruct1+mstruct2+union-funion+union-munion+union-selected+value-complex+value-elements+value-listed+value-value.Proof.Base.{mmembers-at, member·mmember-below}
 use Rattle.reader.proofs.member.mmember.Reads as member·mmember
 use Rattle.book.proofs.member.after.Reads as after-reads
 use Rattle.book.proofs.member.members.Reads as members-reads

@@ -4,8 +4,8 @@ use Rattle.reader.proofs.NestedSteps.{place-kept}
 use borrow.Author.Needs.{needs}
 use Prim.Native.Nat.{ℕ}
 use Rattle.reader.proofs.as_nested.Reads as as-nested
-use Rattle.reader.proofs.+as_nested+body+fstruct_type+member-fmember+member-found+member-mmember+member-opt_fmember+mmembers+mstruct_v1+mstruct_v2+union-funion_type+union-munion_type+union-selected+value-complex+value-list_type+value-sequence_elements+value-value.Lts-as_nested as lts
-use Rattle.reader.proofs.+as_nested+body+fstruct_type+member-fmember+member-found+member-mmember+member-opt_fmember+mmembers+mstruct_v1+mstruct_v2+union-funion_type+union-munion_type+union-selected+value-complex+value-list_type+value-sequence_elements+value-value.Proof.Base.{as-nested-at, body-below}
+use Rattle.reader.proofs.+as_nested+body+fstruct+member-fmember+member-found+member-mmember+member-optional+mmembers+mstruct1+mstruct2+union-funion+union-munion+union-selected+value-complex+value-elements+value-listed+value-value.Lts-as_nested as lts
+use Rattle.reader.proofs.+as_nested+body+fstruct+member-fmember+member-found+member-mmember+member-optional+mmembers+mstruct1+mstruct2+union-funion+union-munion+union-selected+value-complex+value-elements+value-listed+value-value.Proof.Base.{as-nested-at, body-below}
 use Rattle.reader.proofs.body.Reads as body
 use Rattle.book.proofs.index.place.Reads as place-reads
 use Rattle.kinds.proofs.opens.Reads as opens-reads

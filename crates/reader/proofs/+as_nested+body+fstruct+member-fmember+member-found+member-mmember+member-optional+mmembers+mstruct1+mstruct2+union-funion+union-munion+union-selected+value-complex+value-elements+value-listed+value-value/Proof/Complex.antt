@@ -7,8 +7,8 @@ use Rattle.reader.proofs.ValueSteps.{ComplexSofar}
 use borrow.Author.Needs.{needs}
 use Prim.Native.Nat.{ℕ}
 use Rattle.reader.proofs.value.complex.Reads as value·complex
-use Rattle.reader.proofs.+as_nested+body+fstruct_type+member-fmember+member-found+member-mmember+member-opt_fmember+mmembers+mstruct_v1+mstruct_v2+union-funion_type+union-munion_type+union-selected+value-complex+value-list_type+value-sequence_elements+value-value.Lts-value-complex as lts
-use Rattle.reader.proofs.+as_nested+body+fstruct_type+member-fmember+member-found+member-mmember+member-opt_fmember+mmembers+mstruct_v1+mstruct_v2+union-funion_type+union-munion_type+union-selected+value-complex+value-list_type+value-sequence_elements+value-value.Proof.Base.{value·complex-at, as-nested-below}
+use Rattle.reader.proofs.+as_nested+body+fstruct+member-fmember+member-found+member-mmember+member-optional+mmembers+mstruct1+mstruct2+union-funion+union-munion+union-selected+value-complex+value-elements+value-listed+value-value.Lts-value-complex as lts
+use Rattle.reader.proofs.+as_nested+body+fstruct+member-fmember+member-found+member-mmember+member-optional+mmembers+mstruct1+mstruct2+union-funion+union-munion+union-selected+value-complex+value-elements+value-listed+value-value.Proof.Base.{value·complex-at, as-nested-below}
 use Rattle.reader.proofs.as_nested.Reads as as-nested
 use Rattle.reader.proofs.Rules.{complex-laws}
 

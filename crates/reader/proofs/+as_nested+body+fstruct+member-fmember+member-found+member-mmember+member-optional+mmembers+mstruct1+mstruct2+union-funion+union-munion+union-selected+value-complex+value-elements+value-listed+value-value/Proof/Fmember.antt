@@ -2,9 +2,9 @@
 use borrow.Author.Needs.{needs}
 use Prim.Native.Nat.{ℕ}
 use Rattle.reader.proofs.member.fmember.Reads as member·fmember
-use Rattle.reader.proofs.+as_nested+body+fstruct_type+member-fmember+member-found+member-mmember+member-opt_fmember+mmembers+mstruct_v1+mstruct_v2+union-funion_type+union-munion_type+union-selected+value-complex+value-list_type+value-sequence_elements+value-value.Lts-member-fmember as lts
-use Rattle.reader.proofs.+as_nested+body+fstruct_type+member-fmember+member-found+member-mmember+member-opt_fmember+mmembers+mstruct_v1+mstruct_v2+union-funion_type+union-munion_type+union-selected+value-complex+value-list_type+value-sequence_elements+value-value.Proof.Base.{member·fmember-at, member·opt-fmember-below, value·value-below}
-use Rattle.reader.proofs.member.opt_fmember.Reads as member·opt-fmember
+use Rattle.reader.proofs.+as_nested+body+fstruct+member-fmember+member-found+member-mmember+member-optional+mmembers+mstruct1+mstruct2+union-funion+union-munion+union-selected+value-complex+value-elements+value-listed+value-value.Lts-member-fmember as lts
+use Rattle.reader.proofs.+as_nested+body+fstruct+member-fmember+member-found+member-mmember+member-optional+mmembers+mstruct1+mstruct2+union-funion+union-munion+union-selected+value-complex+value-elements+value-listed+value-value.Proof.Base.{member·fmember-at, member·optional-below, value·value-below}
+use Rattle.reader.proofs.member.optional.Reads as member·optional
 use Rattle.reader.proofs.value.value.Reads as value·value
 use Rattle.book.proofs.member.id.Reads as id-reads
 use Rattle.book.proofs.member.is_optional.Reads as is-optional-reads
@@ -12,13 +12,13 @@ use Rattle.book.proofs.member.type_index.Reads as type-index-reads
 use Rattle.reader.proofs.Rules.{fmember-laws}
 
 abbrev E : ℕ → lts.Claims
-E t = (is-optional-reads.Asked, is-optional-reads.Learnt, member·opt-fmember-below t, member·opt-fmember.Post, type-index-reads.Asked, type-index-reads.Learnt, id-reads.Asked, id-reads.Learnt, value·value-below t, value·value.Post)
+E t = (is-optional-reads.Asked, is-optional-reads.Learnt, member·optional-below t, member·optional.Post, type-index-reads.Asked, type-index-reads.Learnt, id-reads.Asked, id-reads.Learnt, value·value-below t, value·value.Post)
 
 pub closed : (t : ℕ) {M : Type 1} → lts.Closed (E t) (member·fmember-at t) member·fmember.Post M
 closed t =
     lts.spec (E t) (member·fmember-at t) member·fmember.Post
     (λ c κs. search (needs, fmember-laws))  -- is-optional-requires
-    (λ c κs. search (needs, fmember-laws))  -- opt-fmember-requires
+    (λ c κs. search (needs, fmember-laws))  -- optional-requires
     (λ c. search (needs, fmember-laws))  -- same-length
     (λ c. search (needs, fmember-laws))  -- returns
     (λ c κs. search (needs, fmember-laws))  -- type-index-requires

@@ -2,9 +2,9 @@
 use borrow.Author.Needs.{needs}
 use Prim.Native.Nat.{ℕ}
 use Rattle.reader.proofs.member.found.Reads as member·found
-use Rattle.reader.proofs.+as_nested+body+fstruct_type+member-fmember+member-found+member-mmember+member-opt_fmember+mmembers+mstruct_v1+mstruct_v2+union-funion_type+union-munion_type+union-selected+value-complex+value-list_type+value-sequence_elements+value-value.Lts-member-found as lts
-use Rattle.reader.proofs.+as_nested+body+fstruct_type+member-fmember+member-found+member-mmember+member-opt_fmember+mmembers+mstruct_v1+mstruct_v2+union-funion_type+union-munion_type+union-selected+value-complex+value-list_type+value-sequence_elements+value-value.Proof.Base.{member·found-at, value·sequence-elements-below, value·value-below}
-use Rattle.reader.proofs.value.sequence_elements.Reads as value·sequence-elements
+use Rattle.reader.proofs.+as_nested+body+fstruct+member-fmember+member-found+member-mmember+member-optional+mmembers+mstruct1+mstruct2+union-funion+union-munion+union-selected+value-complex+value-elements+value-listed+value-value.Lts-member-found as lts
+use Rattle.reader.proofs.+as_nested+body+fstruct+member-fmember+member-found+member-mmember+member-optional+mmembers+mstruct1+mstruct2+union-funion+union-munion+union-selected+value-complex+value-elements+value-listed+value-value.Proof.Base.{member·found-at, value·elements-below, value·value-below}
+use Rattle.reader.proofs.value.elements.Reads as value·elements
 use Rattle.reader.proofs.value.value.Reads as value·value
 use Rattle.book.proofs.index.place.Reads as place-reads
 use Rattle.book.proofs.member.id.Reads as id-reads
@@ -15,7 +15,7 @@ use Rattle.reader.proofs.types.element_count.Reads as element-count-rea
 use Rattle.reader.proofs.Rules.{found-laws}
 
 abbrev E : ℕ → lts.Claims
-E t = (type-index-reads.Asked, type-index-reads.Learnt, place-reads.Asked, place-reads.Learnt, by-length-reads.Asked, by-length-reads.Learnt, element-count-reads.Asked, element-count-reads.Learnt, element-reads.Asked, element-reads.Learnt, id-reads.Asked, id-reads.Learnt, value·sequence-elements-below t, value·sequence-elements.Post, value·value-below t, value·value.Post)
+E t = (type-index-reads.Asked, type-index-reads.Learnt, place-reads.Asked, place-reads.Learnt, by-length-reads.Asked, by-length-reads.Learnt, element-count-reads.Asked, element-count-reads.Learnt, element-reads.Asked, element-reads.Learnt, id-reads.Asked, id-reads.Learnt, value·elements-below t, value·elements.Post, value·value-below t, value·value.Post)
 
 pub closed : (t : ℕ) {M : Type 1} → lts.Closed (E t) (member·found-at t) member·found.Post M
 closed t =
@@ -26,8 +26,8 @@ closed t =
     (λ c κs. search (needs, found-laws))  -- element-count-requires
     (λ c κs. search (needs, found-laws))  -- element-requires
     (λ c κs. search (needs, found-laws))  -- id-requires
-    (λ c. search (needs, found-laws))  -- cast-sequence-elements
-    (λ c κs. search (needs, found-laws))  -- sequence-elements-requires
+    (λ c. search (needs, found-laws))  -- cast-elements
+    (λ c κs. search (needs, found-laws))  -- elements-requires
     (λ c. search (needs, found-laws))  -- same-length
     (λ c. search (needs, found-laws))  -- returns
     (λ c κs. search (needs, found-laws))  -- id-requires-2

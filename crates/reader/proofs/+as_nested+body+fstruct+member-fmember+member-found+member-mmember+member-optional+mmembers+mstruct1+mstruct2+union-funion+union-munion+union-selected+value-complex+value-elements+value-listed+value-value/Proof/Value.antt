@@ -2,10 +2,10 @@
 use borrow.Author.Needs.{needs}
 use Prim.Native.Nat.{ℕ}
 use Rattle.reader.proofs.value.value.Reads as value·value
-use Rattle.reader.proofs.+as_nested+body+fstruct_type+member-fmember+member-found+member-mmember+member-opt_fmember+mmembers+mstruct_v1+mstruct_v2+union-funion_type+union-munion_type+union-selected+value-complex+value-list_type+value-sequence_elements+value-value.Lts-value-value as lts
-use Rattle.reader.proofs.+as_nested+body+fstruct_type+member-fmember+member-found+member-mmember+member-opt_fmember+mmembers+mstruct_v1+mstruct_v2+union-funion_type+union-munion_type+union-selected+value-complex+value-list_type+value-sequence_elements+value-value.Proof.Base.{value·value-at, as-nested-below, value·list-type-below}
+use Rattle.reader.proofs.+as_nested+body+fstruct+member-fmember+member-found+member-mmember+member-optional+mmembers+mstruct1+mstruct2+union-funion+union-munion+union-selected+value-complex+value-elements+value-listed+value-value.Lts-value-value as lts
+use Rattle.reader.proofs.+as_nested+body+fstruct+member-fmember+member-found+member-mmember+member-optional+mmembers+mstruct1+mstruct2+union-funion+union-munion+union-selected+value-complex+value-elements+value-listed+value-value.Proof.Base.{value·value-at, as-nested-below, value·listed-below}
 use Rattle.reader.proofs.as_nested.Reads as as-nested
-use Rattle.reader.proofs.value.list_type.Reads as value·list-type
+use Rattle.reader.proofs.value.listed.Reads as value·listed
 use Rattle.book.proofs.index.place.Reads as place-reads
 use Rattle.kinds.proofs.opens.Reads as opens-reads
 use Rattle.kinds.proofs.unsupported_member.Reads as unsupported-member-reads
@@ -15,7 +15,7 @@ use Rattle.values.proofs.scalar.scalar.Reads as scalar-reads
 use Rattle.reader.proofs.Rules.{value-laws}
 
 abbrev E : ℕ → lts.Claims
-E t = (place-reads.Asked, place-reads.Learnt, kind-at-reads.Asked, kind-at-reads.Learnt, unsupported-member-reads.Asked, unsupported-member-reads.Learnt, opens-reads.Asked, opens-reads.Learnt, as-nested-below t, as-nested.Post, value·list-type-below t, value·list-type.Post, read-as-reads.Asked, read-as-reads.Learnt, scalar-reads.Asked, scalar-reads.Learnt)
+E t = (place-reads.Asked, place-reads.Learnt, kind-at-reads.Asked, kind-at-reads.Learnt, unsupported-member-reads.Asked, unsupported-member-reads.Learnt, opens-reads.Asked, opens-reads.Learnt, as-nested-below t, as-nested.Post, value·listed-below t, value·listed.Post, read-as-reads.Asked, read-as-reads.Learnt, scalar-reads.Asked, scalar-reads.Learnt)
 
 pub closed : (t : ℕ) {M : Type 1} → lts.Closed (E t) (value·value-at t) value·value.Post M
 closed t =
@@ -29,7 +29,7 @@ closed t =
     (λ c κs. search (needs, value-laws))  -- as-nested-requires
     (λ c. search (needs, value-laws))  -- same-length
     (λ c. search (needs, value-laws))  -- returns-3
-    (λ c κs. search (needs, value-laws))  -- list-type-requires
+    (λ c κs. search (needs, value-laws))  -- listed-requires
     (λ c. search (needs, value-laws))  -- same-length-2
     (λ c. search (needs, value-laws))  -- returns-4
     (λ c κs. search (needs, value-laws))  -- read-as-requires

@@ -2,8 +2,8 @@
 use borrow.Author.Needs.{needs}
 use Prim.Native.Nat.{ℕ}
 use Rattle.reader.proofs.union.selected.Reads as union·selected
-use Rattle.reader.proofs.+as_nested+body+fstruct_type+member-fmember+member-found+member-mmember+member-opt_fmember+mmembers+mstruct_v1+mstruct_v2+union-funion_type+union-munion_type+union-selected+value-complex+value-list_type+value-sequence_elements+value-value.Lts-union-selected as lts
-use Rattle.reader.proofs.+as_nested+body+fstruct_type+member-fmember+member-found+member-mmember+member-opt_fmember+mmembers+mstruct_v1+mstruct_v2+union-funion_type+union-munion_type+union-selected+value-complex+value-list_type+value-sequence_elements+value-value.Proof.Base.{union·selected-at, member·fmember-below, member·mmember-below}
+use Rattle.reader.proofs.+as_nested+body+fstruct+member-fmember+member-found+member-mmember+member-optional+mmembers+mstruct1+mstruct2+union-funion+union-munion+union-selected+value-complex+value-elements+value-listed+value-value.Lts-union-selected as lts
+use Rattle.reader.proofs.+as_nested+body+fstruct+member-fmember+member-found+member-mmember+member-optional+mmembers+mstruct1+mstruct2+union-funion+union-munion+union-selected+value-complex+value-elements+value-listed+value-value.Proof.Base.{union·selected-at, member·fmember-below, member·mmember-below}
 use Rattle.reader.proofs.member.fmember.Reads as member·fmember
 use Rattle.reader.proofs.member.mmember.Reads as member·mmember
 use Rattle.choice.proofs.select.select.Reads as select-reads

@@ -1,0 +1,46 @@
+-- `fstruct`, one of the cycle. Made by tools/cycle.
+use Rattle.table.specs.Rows.{room}
+use Rattle.book.specs.Places.{typeAt, typesBy}
+use Rattle.reader.specs.Cycle.{nest, fstructIn}
+use Rattle.reader.proofs.StructureSteps.{FinalSofar}
+use borrow.Author.Needs.{needs}
+use Prim.Native.Nat.{ℕ}
+use Rattle.reader.proofs.fstruct.Reads as fstruct
+use Rattle.reader.proofs.+as_nested+body+fstruct+member-fmember+member-found+member-mmember+member-optional+mmembers+mstruct1+mstruct2+union-funion+union-munion+union-selected+value-complex+value-elements+value-listed+value-value.Lts-fstruct as lts
+use Rattle.reader.proofs.+as_nested+body+fstruct+member-fmember+member-found+member-mmember+member-optional+mmembers+mstruct1+mstruct2+union-funion+union-munion+union-selected+value-complex+value-elements+value-listed+value-value.Proof.Base.{fstruct-at, member·fmember-below}
+use Rattle.reader.proofs.member.fmember.Reads as member·fmember
+use Rattle.book.proofs.member.after.Reads as after-reads
+use Rattle.book.proofs.member.members.Reads as members-reads
+use Rattle.reader.proofs.types.absorbs.Reads as absorbs-reads
+use Rattle.reader.proofs.Rules.{fstruct-laws}
+
+abbrev E : ℕ → lts.Claims
+E t = (members-reads.Asked, members-reads.Learnt, member·fmember-below t, member·fmember.Post, absorbs-reads.Asked, absorbs-reads.Learnt, after-reads.Asked, after-reads.Learnt)
+
+abbrev Inv-loop : lts.InvT-loop
+Inv-loop book index s set t₀ at n depth ms₀ d₀ m₀ t ms d m = FinalSofar (typesBy book index) s set (nest book index s set depth) book at (fstructIn book index s set depth (typeAt book at) d₀ (room t₀ n)) n t₀ t ms d m
+
+abbrev μ-loop : lts.MeasureT-loop
+μ-loop book index s set t₀ at n depth ms₀ d₀ m₀ t ms d m = ms .left
+
+pub closed : (t : ℕ) {M : Type 1} → lts.Closed (E t) (fstruct-at t) fstruct.Post M
+closed t =
+    lts.spec (E t) (fstruct-at t) fstruct.Post Inv-loop μ-loop
+    (λ c κs. search (needs, fstruct-laws))  -- members-requires
+    (λ c. search (needs, fstruct-laws))  -- loop-holds
+    (λ c κs. search (needs, fstruct-laws))  -- fmember-requires
+    (λ c. search (needs, fstruct-laws))  -- enum-known-e
+    (λ c. search (needs, fstruct-laws))  -- enum-known-x
+    (λ c κs. search (needs, fstruct-laws))  -- absorbs-requires
+    (λ c. search (needs, fstruct-laws))  -- same-length
+    (λ c. search (needs, fstruct-laws))  -- returns
+    (λ c. search (needs, fstruct-laws))  -- same-length-2
+    (λ c. search (needs, fstruct-laws))  -- returns-2
+    (λ c. search (needs, fstruct-laws))  -- enum-known-why
+    (λ c. search (needs, fstruct-laws))  -- same-length-3
+    (λ c. search (needs, fstruct-laws))  -- returns-3
+    (λ c κs. search (needs, fstruct-laws))  -- after-requires
+    (λ c. search (needs, fstruct-laws))  -- loop-less
+    (λ c. search (needs, fstruct-laws))  -- loop-again
+    (λ c. search (needs, fstruct-laws))  -- same-length-4
+    (λ c. search (needs, fstruct-laws))  -- returns-4
