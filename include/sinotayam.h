@@ -38,6 +38,10 @@ enum {
 /* Reads a message of the book's type `root`. Returns rows * 256 + number. The table holds the rows and then zeros; on a refusal it is all zero. */
 uint64_t sinotayam_read(const uint8_t *book, size_t book_len, uint16_t root, const uint8_t *message, size_t message_len, uint64_t *table, size_t words);
 
+/* The type check: 0 where every reading of the book's type `root` gives 0, 1, 2, 10, 13 or 14; 8 for a book that breaks a rule, 9 for a root
+   that is none of its types, else 16. */
+uint8_t sinotayam_check(const uint8_t *book, size_t book_len, uint16_t root);
+
 /* Judges a book once, and fills an index for sinotayam_read_prepared. Returns 0; 8 for a book that breaks a rule; 13 where the index has fewer
    words than the book has types and one more. After 8 and 13 the index holds no types, and every reading with it is 8. */
 uint8_t sinotayam_prepare(const uint8_t *book, size_t book_len, uint32_t *index, size_t index_len);

@@ -12,6 +12,7 @@ mod ffi {
             table: *mut u64,
             words: usize,
         ) -> u64;
+        pub fn sinotayam_check(book: *const u8, book_len: usize, root: u16) -> u8;
         pub fn sinotayam_prepare(book: *const u8, book_len: usize, index: *mut u32, index_len: usize) -> u8;
         pub fn sinotayam_read_prepared(
             book: *const u8,
@@ -162,6 +163,13 @@ pub fn read<'t>(book: &[u8], root: u16, message: &[u8], table: &'t mut [u64]) ->
         )
     };
     told(word, table)
+}
+
+/// The type check: whether every reading of the book's type `root` is a finished one, or refused for the message's or the table's sake alone.
+pub fn check(book: &[u8], root: u16) -> Result<(), Refusal> {
+    // The pointer and the length are those of a live slice, and nothing is written.
+    let number = unsafe { ffi::sinotayam_check(book.as_ptr(), book.len(), root) };
+    Refusal::of_number(number).map_or(Ok(()), Err)
 }
 
 /// A book that was judged once, to read many messages with.
