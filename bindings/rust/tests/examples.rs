@@ -1,5 +1,5 @@
 //! Bench examples of document 01, through the safe calls.
-use sinotayam::{data, read, Prepared, Refusal, Row};
+use sinotayam::{check, data, read, Prepared, Refusal, Row};
 
 const BOOK: &[u8] = b"\x00\x00\x00\x2c\x01\x00\x02\x00\x0e\x04\x00\x00\x00\x00\x00\x00\x00\xff\xff\x00\x00\
     \x00\x17\x16\x00\x00\x00\x00\x00\x00\x00\xff\xff\x00\x01\x00\x00\x00\x07\x00\x00\x00\x01\x00";
@@ -73,4 +73,12 @@ fn prepared_reads_the_same() {
 #[test]
 fn an_empty_table_has_no_room() {
     assert_eq!(read(BOOK, 1, MESSAGE, &mut []).unwrap_err(), Refusal::NoRoom);
+}
+
+#[test]
+fn the_type_check_of_example_1() {
+    assert_eq!(check(BOOK, 1), Ok(()));
+    assert_eq!(check(BOOK, 0), Err(Refusal::Unfit));
+    assert_eq!(check(BOOK, 2), Err(Refusal::BadRoot));
+    assert_eq!(check(&[], 0), Err(Refusal::BadBook));
 }

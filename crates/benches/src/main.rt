@@ -1,4 +1,4 @@
-// Document 01's bench examples, 1 to 13, run through the library, and each number of its table reached (4 never is, 16 is the type check's).
+// Document 01's bench examples, 1 to 13, run through the library, and each number of its table reached (4 never is).
 // The file stdout is written from document 01.
 use libc::STDOUT_FILENO;
 use sinotayam::answer::Number;
@@ -251,7 +251,11 @@ fn lengths() {
 
 // A number as it is printed.
 fn number(n: Number) {
-    io::print_decimal(STDOUT_FILENO, n.code() as u64);
+    code(n.code());
+}
+
+fn code(k: u8) {
+    io::print_decimal(STDOUT_FILENO, k as u64);
     io::write_all(STDOUT_FILENO, b"\n");
 }
 
@@ -323,6 +327,15 @@ fn text(table: &[u64], row: usize, s: &[u8]) {
     title(sinotayam::texts::text(table, row, s));
 }
 
+// The type check of example 1's book: the structure passes, an INT32 is no root, there is no type 2; and bytes that are no book.
+fn checks() {
+    title(b"check");
+    code(fit::check(&INT32, 1));
+    code(fit::check(&INT32, 0));
+    code(fit::check(&INT32, 2));
+    code(fit::check(b"", 0));
+}
+
 fn main() {
     scalars();
     rooms();
@@ -333,4 +346,5 @@ fn main() {
     broken();
     prepared();
     texts();
+    checks();
 }
