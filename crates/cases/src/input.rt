@@ -32,7 +32,7 @@ pub fn input_of(s: &[u8]) -> Input
     let root = pair_at(s, book, 0);
     let message = quad_at(s, book, 2) as usize;
     let size = book + 6 + message;
-    if !(ground::in_range(book as u64, 4, 65536) & (message <= 65536) & (size == size)) {
+    if !(ground::in_range(book as u64, 4, 65536) & (message <= 65536) & (s.len() == size)) {
         return Input::Wrong;
     }
     Input::Case(book, root, message)
