@@ -1,18 +1,19 @@
 // Document 01's rules of a book, run: example 1's book, for each rule the smallest books that break it alone, and the books at the
 // bounds. Each line is a book's name and what `judge` says of it.
-mod build;
-mod edit;
+mod books;
 
-use edit::ENUM;
-use edit::EXAMPLE1;
-use edit::LABELLED;
-use edit::LONGER;
-use edit::PAIR;
-use edit::PLAIN;
-use edit::SEQUENCE;
-use edit::UNION;
-use edit::changed;
-use edit::changed_twice;
+ghost use mathlib.Core.Path.{_≡_};
+ghost use Prim.Native.Nat.{_+_, _*_};
+use book::bytes::skip;
+use books::ENUM;
+use books::EXAMPLE1;
+use books::LABELLED;
+use books::LONGER;
+use books::PAIR;
+use books::PLAIN;
+use books::SEQUENCE;
+use books::UNION;
+use libc::STDOUT_FILENO;
 
 fn main() {
     lengths();
@@ -27,23 +28,23 @@ fn main() {
 
 // Slices of few bytes, each with its own length stated as far as it has room.
 fn lengths() {
-    edit::show(b"0 bytes", b"");
-    edit::show(b"3 bytes", b"\x00\x00\x00");
-    edit::show(b"4 bytes", b"\x00\x00\x00\x04");
-    edit::show(b"6 bytes", b"\x00\x00\x00\x06\x01\x00");
+    show(b"0 bytes", b"");
+    show(b"3 bytes", b"\x00\x00\x00");
+    show(b"4 bytes", b"\x00\x00\x00\x04");
+    show(b"6 bytes", b"\x00\x00\x00\x06\x01\x00");
 }
 
 fn head() {
     changed(b"length 22 of 21 bytes", &PLAIN, 3, 22);
     changed(b"version 2", &PLAIN, 4, 2);
-    edit::show(b"no type", b"\x00\x00\x00\x07\x01\x00\x00");
+    show(b"no type", b"\x00\x00\x00\x07\x01\x00\x00");
     changed(b"record longer than the book", &PLAIN, 8, 15);
-    edit::show(
+    show(
         b"record of 13 bytes",
         b"\x00\x00\x00\x14\x01\x00\x01\x00\x0d\x04\x00\x00\x00\x00\x00\x00\x00\xff\xff\x00",
     );
     changed(b"a byte after the members", &LONGER, 8, 15);
-    edit::show(b"a byte after the last record", &LONGER);
+    show(b"a byte after the last record", &LONGER);
 }
 
 fn own_bytes() {
@@ -97,13 +98,13 @@ fn first_of_union() {
 
 // Right books: example 1's, and what no rule names.
 fn allowed() {
-    edit::show(b"example 1", &EXAMPLE1);
-    edit::show(b"INT32", &PLAIN);
-    edit::show(b"sequence", &SEQUENCE);
-    edit::show(b"enum", &ENUM);
-    edit::show(b"union of its discriminator", &UNION);
-    edit::show(b"two members", &PAIR);
-    edit::show(b"structure's member with a label", &LABELLED);
+    show(b"example 1", &EXAMPLE1);
+    show(b"INT32", &PLAIN);
+    show(b"sequence", &SEQUENCE);
+    show(b"enum", &ENUM);
+    show(b"union of its discriminator", &UNION);
+    show(b"two members", &PAIR);
+    show(b"structure's member with a label", &LABELLED);
     changed_twice(b"array of bound 0", &SEQUENCE, 23, 26, 26, 1);
     changed_twice(b"INT32 with a bound", &PLAIN, 12, 1, 16, 5);
     changed(b"Mutable INT32", &PLAIN, 10, 2);
@@ -117,12 +118,171 @@ fn allowed() {
 
 // Books at the bounds, built.
 fn bounds() {
-    build::types(b"64 types", 64);
-    build::types(b"65 types", 65);
-    build::structures(b"64 members", 0, 64, 0, 16);
-    build::structures(b"65 members", 0, 65, 0, 16);
-    build::structures(b"16 labels", 0, 1, 16, 16);
-    build::structures(b"17 labels", 0, 1, 17, 17);
-    build::structures(b"65536 bytes", 13, 63, 1004, 16);
-    build::structures(b"65537 bytes", 13, 64, 1002, 16);
+    types(b"64 types", 64);
+    types(b"65 types", 65);
+    structures(b"64 members", 0, 64, 0, 16);
+    structures(b"65 members", 0, 65, 0, 16);
+    structures(b"16 labels", 0, 1, 16, 16);
+    structures(b"17 labels", 0, 1, 17, 17);
+    structures(b"65536 bytes", 13, 63, 1004, 16);
+    structures(b"65537 bytes", 13, 64, 1002, 16);
+}
+
+// Writes the name of a book and what `judge` says of it.
+fn show(name: &[u8], b: &[u8]) {
+    io::write_all(STDOUT_FILENO, name);
+    if book::judge::judge(b) {
+        io::write_all(STDOUT_FILENO, b" right\n");
+    } else {
+        io::write_all(STDOUT_FILENO, b" wrong\n");
+    }
+}
+
+fn put(b: &mut [u8], at: usize, x: u8) {
+    if at < b.len() {
+        b[at] = x;
+    }
+}
+
+fn copy(b: &mut [u8], s: &[u8]) {
+    let mut i = 0;
+    while i < s.len() {
+        put(b, i, s[i]);
+        i += 1;
+    }
+}
+
+// The book s with x at i and y at j: the books that differ from a right one in a byte or two.
+fn changed_twice(name: &[u8], s: &[u8], i: usize, x: u8, j: usize, y: u8) {
+    let mut b = [0u8; 64];
+    if s.len() <= 64 {
+        copy(&mut b, s);
+        put(&mut b, i, x);
+        put(&mut b, j, y);
+        let n = s.len();
+        show(name, &b[0..n]);
+    }
+}
+
+fn changed(name: &[u8], s: &[u8], i: usize, x: u8) {
+    changed_twice(name, s, i, x, i, x);
+}
+
+// Books that are too long to write out are built in a buffer that is zero but for what is put there.
+fn low(x: u32) -> u8 {
+    (x % 256) as u8
+}
+
+// Two bytes, big-endian, and the place after them.
+fn put_pair(b: &mut [u8], at: usize, x: u32) -> usize {
+    put(b, at, low(x / 256));
+    let next = skip(b, at, 1);
+    put(b, next, low(x));
+    skip(b, next, 1)
+}
+
+fn put_head(b: &mut [u8], size: u32, count: u32) -> usize {
+    put_pair(b, 0, size / 65536);
+    put_pair(b, 2, size);
+    put(b, 4, 1);
+    put_pair(b, 5, count)
+}
+
+// A record up to its members, with no element.
+fn put_type(b: &mut [u8], at: usize, size: u32, kind: u8, count: u32) -> usize {
+    let k = put_pair(b, at, size);
+    put(b, k, kind);
+    let e = put_pair(b, skip(b, k, 8), 65535);
+    put_pair(b, e, count)
+}
+
+// A member of type 0, Discard, whose labels are all 0.
+fn put_member(b: &mut [u8], at: usize, id: u32, labels: u8) -> usize {
+    put(b, skip(b, at, 3), low(id));
+    put(b, skip(b, at, 7), 1);
+    put(b, skip(b, at, 8), labels);
+    skip(b, at, 9 + 4 * (labels as usize))
+}
+
+// n records of INT32.
+fn put_types(b: &mut [u8], at: usize, n: u8) -> usize {
+    let mut p = at;
+    let mut i = 0;
+    while i < n {
+        p = put_type(b, p, 14, 4, 0);
+        i += 1;
+    }
+    p
+}
+
+fn least(x: u16, y: u8) -> u8 {
+    if x < (y as u16) { x as u8 } else { y }
+}
+
+// `count` members with `labels` labels in all, the first members `most` each.
+fn put_members(b: &mut [u8], at: usize, count: u8, labels: u16, most: u8) -> usize {
+    let mut p = at;
+    let mut left = labels;
+    let mut i = 0;
+    while i < count {
+        let n = least(left, most);
+        p = put_member(b, p, i as u32, n);
+        left = rest(left, n);
+        i += 1;
+    }
+    p
+}
+
+fn rest(x: u16, y: u8) -> u16 {
+    if x < (y as u16) { 0 } else { x - (y as u16) }
+}
+
+// A structure's bytes.
+fn size_of(members: u8, labels: u16) -> u32
+    ensures { λ r. ⌜ r ≡ 14 + 9 * members + 4 * labels ⌝ }
+{
+    14 + 9 * (members as u32) + 4 * (labels as u32)
+}
+
+fn put_structure(b: &mut [u8], at: usize, members: u8, labels: u16, most: u8) -> usize {
+    let p = put_type(b, at, size_of(members, labels), 22, members as u32);
+    put_members(b, p, members, labels, most)
+}
+
+// n structures of 64 members with 16 labels each, 4,686 bytes.
+fn put_full(b: &mut [u8], at: usize, n: u8) -> usize {
+    let mut p = at;
+    let mut i = 0;
+    while i < n {
+        p = put_structure(b, p, 64, 1024, 16);
+        i += 1;
+    }
+    p
+}
+
+fn show_part(name: &[u8], b: &[u8], n: u32) {
+    let end = n as usize;
+    if end <= b.len() {
+        show(name, &b[0..end]);
+    }
+}
+
+// A book of n types INT32.
+fn types(name: &[u8], n: u8) {
+    let mut b = [0u8; 1024];
+    let size = 7 + 14 * (n as u32);
+    let p = put_head(&mut b, size, n as u32);
+    put_types(&mut b, p, n);
+    show_part(name, &b, size);
+}
+
+// A book of INT32, `full` structures of 4,686 bytes, and one of `members` members with `labels` labels, at most `most` each.
+fn structures(name: &[u8], full: u8, members: u8, labels: u16, most: u8) {
+    let mut b = [0u8; 65537];
+    let size = 21 + 4686 * (full as u32) + size_of(members, labels);
+    let p = put_head(&mut b, size, 2 + (full as u32));
+    let q = put_types(&mut b, p, 1);
+    let r = put_full(&mut b, q, full);
+    put_structure(&mut b, r, members, labels, most);
+    show_part(name, &b, size);
 }

@@ -3,8 +3,8 @@ use borrow.Author.Needs.{needs}
 use Prim.Native.Nat.{_-_}
 use mathlib.Core.Path.{_≡_}
 use lib.ListN.{length}
-use Rattle.examples.proofs.build.put_full.Statement.{statement}
-use Rattle.examples.proofs.build.put_full.Tie as tie
+use Rattle.examples.proofs.put_full.Statement.{statement}
+use Rattle.examples.proofs.put_full.Tie as tie
 
 abbrev Inv-loop : tie.InvT-loop
 Inv-loop b₀ at n p₀ i₀ b p i = length b ≡ length b₀

@@ -1,5 +1,4 @@
-// The smallest right books, and books that differ from one in a byte or two.
-use libc::STDOUT_FILENO;
+// The smallest right books.
 
 // INT32.
 pub const PLAIN: [u8; 21] =
@@ -32,43 +31,3 @@ pub const LABELLED: [u8; 48] =
 // INT32, and a union with that discriminator alone.
 pub const UNION: [u8; 44] =
     *b"\x00\x00\x00\x2c\x01\x00\x02\x00\x0e\x04\x00\x00\x00\x00\x00\x00\x00\xff\xff\x00\x00\x00\x17\x17\x00\x00\x00\x00\x00\x00\x00\xff\xff\x00\x01\x00\x00\x00\x00\x00\x00\x00\x01\x00";
-
-// Writes the name of a book and what `judge` says of it.
-pub fn show(name: &[u8], b: &[u8]) {
-    io::write_all(STDOUT_FILENO, name);
-    if book::judge::judge(b) {
-        io::write_all(STDOUT_FILENO, b" right\n");
-    } else {
-        io::write_all(STDOUT_FILENO, b" wrong\n");
-    }
-}
-
-pub fn put(b: &mut [u8], at: usize, x: u8) {
-    if at < b.len() {
-        b[at] = x;
-    }
-}
-
-fn copy(b: &mut [u8], s: &[u8]) {
-    let mut i = 0;
-    while i < s.len() {
-        put(b, i, s[i]);
-        i += 1;
-    }
-}
-
-// The book s with x at i and y at j.
-pub fn changed_twice(name: &[u8], s: &[u8], i: usize, x: u8, j: usize, y: u8) {
-    let mut b = [0u8; 64];
-    if s.len() <= 64 {
-        copy(&mut b, s);
-        put(&mut b, i, x);
-        put(&mut b, j, y);
-        let n = s.len();
-        show(name, &b[0..n]);
-    }
-}
-
-pub fn changed(name: &[u8], s: &[u8], i: usize, x: u8) {
-    changed_twice(name, s, i, x, i, x);
-}

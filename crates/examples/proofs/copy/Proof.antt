@@ -3,20 +3,23 @@ use borrow.Author.Needs.{needs}
 use Prim.Native.Nat.{_-_}
 use mathlib.Core.Path.{_≡_}
 use lib.ListN.{length}
-use Rattle.examples.proofs.build.put_types.Statement.{statement}
-use Rattle.examples.proofs.build.put_types.Tie as tie
+use Rattle.examples.proofs.copy.Statement.{statement}
+use Rattle.examples.proofs.copy.Tie as tie
 
 abbrev Inv-loop : tie.InvT-loop
-Inv-loop b₀ at n p₀ i₀ b p i = length b ≡ length b₀
+Inv-loop b₀ s i₀ b i = length b ≡ length b₀
 
 abbrev μ-loop : tie.MeasureT-loop
-μ-loop b₀ at n p₀ i₀ b p i = n - i
+μ-loop b₀ s i₀ b i = length s - i
 
 loop-holds : tie.Need-loop-holds Inv-loop μ-loop
 loop-holds c = search needs
 
-put-type-requires : tie.Need-put-type-requires Inv-loop μ-loop
-put-type-requires c κs = search needs
+shared-slice-read-put : tie.Need-shared-slice-read-put Inv-loop μ-loop
+shared-slice-read-put c = search needs
+
+put-requires : tie.Need-put-requires Inv-loop μ-loop
+put-requires c κs = search needs
 
 add-i : tie.Need-add-i Inv-loop μ-loop
 add-i c = search needs
@@ -33,14 +36,15 @@ same-length c = search needs
 returns : tie.Need-returns Inv-loop μ-loop
 returns c = search needs
 
-pub put-types-spec : {M : Type 1} → statement M
-put-types-spec =
+pub copy-spec : {M : Type 1} → statement M
+copy-spec =
     tie.close
     (tie.spec
     Inv-loop
     μ-loop
     loop-holds
-    put-type-requires
+    shared-slice-read-put
+    put-requires
     add-i
     loop-less
     loop-again

@@ -3,8 +3,8 @@ use borrow.Author.Needs.{needs}
 use Prim.Native.Nat.{_-_}
 use mathlib.Core.Path.{_≡_}
 use lib.ListN.{length}
-use Rattle.examples.proofs.build.put_members.Statement.{statement}
-use Rattle.examples.proofs.build.put_members.Tie as tie
+use Rattle.examples.proofs.put_members.Statement.{statement}
+use Rattle.examples.proofs.put_members.Tie as tie
 
 abbrev Inv-loop : tie.InvT-loop
 Inv-loop b₀ at count labels most p₀ left₀ i₀ b p left i = length b ≡ length b₀
