@@ -1,4 +1,5 @@
 // An answer as lines on standard output.
+ghost use mathlib.Core.Path.{_≡_};
 use libc::STDOUT_FILENO;
 use sinotayam::answer::Answer;
 use table::rows::row_at;
@@ -24,8 +25,10 @@ fn line(table: &[u64], i: usize) {
     text(b"\n");
 }
 
-// "answer N rows K", and the rows.
-pub fn answer(a: Answer, table: &[u64]) {
+// "answer N rows K", and the rows. Tells how many rows it wrote.
+pub fn answer(a: Answer, table: &[u64]) -> usize
+    ensures { λ r. ⌜ r ≡ a .rows ⌝ }
+{
     let code = a.number;
     let rows = a.rows;
     text(b"answer ");
@@ -38,4 +41,5 @@ pub fn answer(a: Answer, table: &[u64]) {
         line(table, i);
         i += 1;
     }
+    i
 }

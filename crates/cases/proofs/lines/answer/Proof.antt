@@ -1,4 +1,4 @@
--- Each turn prints one row of `rows`.
+-- Each turn prints one row of `rows`; after the last, i is their count.
 use Prim.Native.Nat.{_-_, _≤_}
 use borrow.Author.Needs.{needs}
 use Rattle.cases.proofs.lines.answer.Statement.{statement}
