@@ -82,6 +82,47 @@ le-parts a (suc b) v s p =
     let f : p + a + b ≡ p + (a + b) = omega arith in
     rw (e, f) (le-parts a b (v * 256 + getD s (p + (a + b)) 0) s p)
 
+-- two and four bytes spelt out, and eight by their two halves
+module _ (o : ByteOrder) (s : List ℕ) (p r : ℕ) where
+  pub be-two : o ≡ BigEndian → r ≡ getD s p 0 * 256 + getD s (p + 1) 0 → r ≡ numberAt o 0 s p 2
+  unfolding numberAt
+  be-two k e = rw k (omega (arith, e))
+
+  pub le-two : o ≡ LittleEndian → r ≡ getD s (p + 1) 0 * 256 + getD s p 0 → r ≡ numberAt o 0 s p 2
+  unfolding numberAt
+  le-two k e = rw (k, add-zero) (omega (arith, e))
+
+  -- where the width is known
+  pub of-width : (w k : ℕ) → w ≡ k → r ≡ numberAt o 0 s p k → r ≡ numberAt o 0 s p w
+  of-width w k e h = rw e h
+
+  pub below-width : (w k : ℕ) → w ≡ k → r < 256 ^ k → r < 256 ^ w
+  below-width w k e h = rw e h
+
+  pub be-four : o ≡ BigEndian → r ≡ ((getD s p 0 * 256 + getD s (p + 1) 0) * 256 + getD s (p + 2) 0) * 256 + getD s (p + 3) 0 → r ≡ numberAt o 0 s p 4
+  unfolding numberAt
+  be-four k e =
+      let f : p + 1 + 1 ≡ p + 2 = omega arith in
+      let g : p + 2 + 1 ≡ p + 3 = omega arith in
+      rw (k, f, g) (omega (arith, e))
+
+  pub le-four : o ≡ LittleEndian → r ≡ ((getD s (p + 3) 0 * 256 + getD s (p + 2) 0) * 256 + getD s (p + 1) 0) * 256 + getD s p 0 → r ≡ numberAt o 0 s p 4
+  unfolding numberAt
+  le-four k e = rw (k, add-zero) (omega (arith, e))
+
+  module _ (a b : ℕ) (first : a ≡ numberAt o 0 s p 4) (second : b ≡ numberAt o 0 s (p + 4) 4) where
+    pub be-eight : o ≡ BigEndian → r ≡ a * 256 ^ 4 + b → r ≡ numberAt o 0 s p 8
+    be-eight k e =
+        let f : a ≡ numberAt BigEndian 0 s p 4 = rw k at first in
+        let g : b ≡ numberAt BigEndian 0 s (p + 4) 4 = rw k at second in
+        rw k (e ∙ rw (f, g) (sym (be-parts 4 4 0 s p ∙ number-above BigEndian 4 (numberAt BigEndian 0 s p 4) s (p + 4))))
+
+    pub le-eight : o ≡ LittleEndian → r ≡ b * 256 ^ 4 + a → r ≡ numberAt o 0 s p 8
+    le-eight k e =
+        let f : a ≡ numberAt LittleEndian 0 s p 4 = rw k at first in
+        let g : b ≡ numberAt LittleEndian 0 s (p + 4) 4 = rw k at second in
+        rw k (e ∙ rw (f, g) (sym (le-parts 4 4 0 s p ∙ number-above LittleEndian 4 (numberAt LittleEndian 0 s (p + 4) 4) s p)))
+
 -- a number of 16 bytes by its two words, and these back from it
 pub be-words : (s : List ℕ) (p high low : ℕ) → high ≡ numberAt BigEndian 0 s p 8 → low ≡ numberAt BigEndian 0 s (p + 8) 8 → high * 2 ^ 64 + low ≡ numberAt BigEndian 0 s p 16
 be-words s p high low e f = rw (e, f) (sym (be-parts 8 8 0 s p ∙ number-above BigEndian 8 (numberAt BigEndian 0 s p 8) s (p + 8)))

@@ -6,7 +6,7 @@ use mathlib.Core.List.{List}
 use native.Mathlib.Omega.{arith}
 use native.Mathlib.Nat.{mod-lt, mod-self, zero-mod, sub-zero, sub-eq-zero-of-le, le-of-lt}
 use lib.ListN.{length}
-use lib.Dec.{leb}
+use lib.Dec.{leb, lit<}
 use borrow.Author.Tests.{le-leb, lt-leb, leb-true, leb-false}
 use Rattle.wire.specs.Place.{moved, shortAt, alignmentOf, paddingOf, seekTo, alignTo, afterMove}
 use Rattle.wire.specs.declared.settings.Version.{Version}
@@ -38,6 +38,15 @@ alignment-some Xcdr2 n a h e = omega arith
 pub padding-none : (c : Cursor) (a : ℕ) → c .pos < c .origin → 0 ≡ paddingOf c a
 unfolding paddingOf
 padding-none c a h = simp (sub-eq-zero-of-le (le-of-lt h), zero-mod, sub-zero, mod-self)
+
+-- by an alignment that is known
+pub padding-by : (c : Cursor) (a k : ℕ) → a ≡ k → (k - (c .pos - c .origin) % k) % k ≡ paddingOf c a
+unfolding paddingOf
+padding-by c a k e = rw e
+
+pub padding-one : (c : Cursor) (a : ℕ) → a ≡ 1 → 0 ≡ paddingOf c a
+unfolding paddingOf
+padding-one c a e = rw e (let h : (1 - (c .pos - c .origin) % 1) % 1 < 1 = mod-lt _ (lit< tt) in omega arith)
 
 pub rest-below : (x a : ℕ) → 0 < a → x % a ≤ a
 rest-below x a h = le-of-lt (mod-lt x h)

@@ -51,7 +51,15 @@ impl Cursor {
         if pos < origin {
             return 0;
         }
-        (alignment - (pos - origin) % alignment) % alignment
+        let from = pos - origin;
+        // By a constant the remainder costs nothing; by a number that is not known it is a division.
+        match alignment {
+            1 => 0,
+            2 => (2 - from % 2) % 2,
+            4 => (4 - from % 4) % 4,
+            8 => (8 - from % 8) % 8,
+            _ => (alignment - from % alignment) % alignment,
+        }
     }
 
     // Past a block of n bytes. This alone asks where the data ends; a block's bytes stay in the data, so the Rust's read_bytes is this too.

@@ -1,7 +1,7 @@
 // Numbers in the data. Each is aligned to its own size, then its bytes are read in the settings' byte order; what ran short keeps the
 // position reached.
 ghost use mathlib.Core.Path.{_≡_};
-ghost use Prim.Native.Nat.{_+_, _≤_, _<_, _^_};
+ghost use Prim.Native.Nat.{_+_, _*_, _≤_, _<_, _^_};
 ghost use lib.ListN.{length};
 ghost use Rattle.wire.specs.Number.{numberAt, numberHere, booleanIn, readFloat128, float128Here, readBoolean, ReadIs, HereIs};
 use crate::cursor::Cursor;
@@ -57,13 +57,74 @@ fn from_le_bytes(s: &[u8], pos: usize, width: usize) -> u64
     v
 }
 
-fn from_bytes(s: &[u8], order: ByteOrder, pos: usize, width: usize) -> u64
+// Any width, byte by byte.
+fn from_each_byte(s: &[u8], order: ByteOrder, pos: usize, width: usize) -> u64
     requires { ⌜ (pos + width ≤ length (now s)) × (width ≤ 8) ⌝ }
     ensures { λ r. ⌜ (r ≡ numberAt order 0 (now (s .entry)) pos width) × (r < 256 ^ width) ⌝ }
 {
     match order {
         ByteOrder::BigEndian => from_be_bytes(s, pos, width),
         ByteOrder::LittleEndian => from_le_bytes(s, pos, width),
+    }
+}
+
+// The number of two bytes, the first the higher.
+fn two(a: u8, b: u8) -> u64
+    ensures { λ r. ⌜ (r ≡ a * 256 + b) × (r < 256 ^ 2) ⌝ }
+{
+    ground::wide(a) * 256 + ground::wide(b)
+}
+
+// The number of four bytes, the first the highest.
+fn four(a: u8, b: u8, c: u8, d: u8) -> u64
+    ensures { λ r. ⌜ (r ≡ ((a * 256 + b) * 256 + c) * 256 + d) × (r < 256 ^ 4) ⌝ }
+{
+    ((ground::wide(a) * 256 + ground::wide(b)) * 256 + ground::wide(c)) * 256 + ground::wide(d)
+}
+
+fn two_bytes(s: &[u8], order: ByteOrder, p: usize) -> u64
+    requires { ⌜ p + 2 ≤ length (now s) ⌝ }
+    ensures { λ r. ⌜ (r ≡ numberAt order 0 (now (s .entry)) p 2) × (r < 256 ^ 2) ⌝ }
+{
+    match order {
+        ByteOrder::BigEndian => two(s[p], s[p + 1]),
+        ByteOrder::LittleEndian => two(s[p + 1], s[p]),
+    }
+}
+
+fn four_bytes(s: &[u8], order: ByteOrder, p: usize) -> u64
+    requires { ⌜ p + 4 ≤ length (now s) ⌝ }
+    ensures { λ r. ⌜ (r ≡ numberAt order 0 (now (s .entry)) p 4) × (r < 256 ^ 4) ⌝ }
+{
+    match order {
+        ByteOrder::BigEndian => four(s[p], s[p + 1], s[p + 2], s[p + 3]),
+        ByteOrder::LittleEndian => four(s[p + 3], s[p + 2], s[p + 1], s[p]),
+    }
+}
+
+// By its two halves.
+fn eight_bytes(s: &[u8], order: ByteOrder, p: usize) -> u64
+    requires { ⌜ p + 8 ≤ length (now s) ⌝ }
+    ensures { λ r. ⌜ (r ≡ numberAt order 0 (now (s .entry)) p 8) × (r < 256 ^ 8) ⌝ }
+{
+    let first = four_bytes(s, order, p);
+    let second = four_bytes(s, order, p + 4);
+    match order {
+        ByteOrder::BigEndian => first * 0x1_0000_0000 + second,
+        ByteOrder::LittleEndian => second * 0x1_0000_0000 + first,
+    }
+}
+
+// Each width that a kind has is one load of the machine's; a loop over bytes would be eight.
+fn from_bytes(s: &[u8], order: ByteOrder, pos: usize, width: usize) -> u64
+    requires { ⌜ (pos + width ≤ length (now s)) × (width ≤ 8) ⌝ }
+    ensures { λ r. ⌜ (r ≡ numberAt order 0 (now (s .entry)) pos width) × (r < 256 ^ width) ⌝ }
+{
+    match width {
+        2 => two_bytes(s, order, pos),
+        4 => four_bytes(s, order, pos),
+        8 => eight_bytes(s, order, pos),
+        _ => from_each_byte(s, order, pos, width),
     }
 }
 

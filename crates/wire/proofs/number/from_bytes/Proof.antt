@@ -1,32 +1,47 @@
+use Rattle.wire.proofs.Digits.{of-width, below-width}
 use borrow.Author.Needs.{needs}
 use Rattle.wire.proofs.number.from_bytes.Statement.{statement}
 use Rattle.wire.proofs.number.from_bytes.Tie as tie
+use Rattle.wire.proofs.number.from_bytes.Reads as reads
+use Rattle.wire.proofs.number.from_bytes.Lts as lts
+use Rattle.wire.proofs.number.eight_bytes.Reads as eight-bytes-reads
+use Rattle.wire.proofs.number.four_bytes.Reads as four-bytes-reads
+use Rattle.wire.proofs.number.from_each_byte.Reads as from-each-byte-reads
+use Rattle.wire.proofs.number.two_bytes.Reads as two-bytes-reads
 
-enum-told : tie.Need-enum-told
-enum-told c = search needs
+two-bytes-requires : tie.Need-two-bytes-requires
+two-bytes-requires c κs = search needs
 
-from-be-bytes-requires : tie.Need-from-be-bytes-requires
-from-be-bytes-requires c κs = search needs
+four-bytes-requires : tie.Need-four-bytes-requires
+four-bytes-requires c κs = search needs
 
-enum-told-2 : tie.Need-enum-told-2
-enum-told-2 c = search needs
+eight-bytes-requires : tie.Need-eight-bytes-requires
+eight-bytes-requires c κs = search needs
 
-from-le-bytes-requires : tie.Need-from-le-bytes-requires
-from-le-bytes-requires c κs = search needs
+from-each-byte-requires : tie.Need-from-each-byte-requires
+from-each-byte-requires c κs = search needs
 
 returns : tie.Need-returns
-returns c = rw (c .before .enum-told .given .1) (c .from-be-bytes .ensures)
+returns c = search (needs, of-width, below-width)
 
 returns-2 : tie.Need-returns-2
-returns-2 c = rw (c .before .enum-told2 .given .1) (c .from-le-bytes .ensures)
+returns-2 c = search (needs, of-width, below-width)
+
+returns-3 : tie.Need-returns-3
+returns-3 c = search (needs, of-width, below-width)
+
+returns-4 : tie.Need-returns-4
+returns-4 c = search needs
 
 pub from-bytes-spec : {M : Type 1} → statement M
 from-bytes-spec =
     tie.close
     (tie.spec
-    enum-told
-    from-be-bytes-requires
-    enum-told-2
-    from-le-bytes-requires
+    two-bytes-requires
+    four-bytes-requires
+    eight-bytes-requires
+    from-each-byte-requires
     returns
-    returns-2)
+    returns-2
+    returns-3
+    returns-4)
