@@ -16,38 +16,46 @@ use Rattle.ground.proofs.Tests.{both-left, both-right}
 use Rattle.ground.proofs.Between.{between}
 use Rattle.wire.specs.Signed.{extended, sameZ}
 
--- the source's table, once more
-abbrev pub halves : List ℕ
-halves = 0 ∷ 0x80 ∷ 0x8000 ∷ 0x800000 ∷ 0x80000000 ∷ 0x8000000000 ∷ 0x800000000000 ∷ 0x80000000000000 ∷ 0x8000000000000000 ∷ []
+-- half of the numbers of w bytes, at each width
+pub half-at : (w k h : ℕ) → w ≡ k → h ≡ 256 ^ k / 2 → h ≡ 256 ^ w / 2
+half-at w k h e f = rw e f
+
+above : (w : ℕ) → 0 < w → (w ≡ 1 → ⊥) → (w ≡ 2 → ⊥) → (w ≡ 3 → ⊥) → (w ≡ 4 → ⊥) → 4 < w
+above w some a b c d = omega arith
+
+only : (w : ℕ) → 4 < w → w ≤ 8 → (w ≡ 5 → ⊥) → (w ≡ 6 → ⊥) → (w ≡ 7 → ⊥) → w ≡ 8
+only w some m e f g = omega arith
+
+pub half-last : (w h : ℕ) → w ≤ 8 → 0 < w → (w ≡ 1 → ⊥) → (w ≡ 2 → ⊥) → (w ≡ 3 → ⊥) → (w ≡ 4 → ⊥) → (w ≡ 5 → ⊥) → (w ≡ 6 → ⊥) → (w ≡ 7 → ⊥) → h ≡ 256 ^ 8 / 2 → h ≡ 256 ^ w / 2
+half-last w h m some a b c d e f g is = rw (only w (above w some a b c d) m e f g) is
 
 abbrev right : ℕ → Bool
-right w = both (eqb (256 ^ w / 2) (getD halves w 0)) (eqb (256 ^ w) (getD halves w 0 + getD halves w 0))
+right w = both (leb 1 (256 ^ w / 2)) (both (leb (256 ^ w / 2) (2 ^ 63)) (eqb (256 ^ w) (256 ^ w / 2 + 256 ^ w / 2)))
 
 module _ (w : ℕ) (some : 0 < w) (fits : w ≤ 8) where
   holds : T (right w)
   holds = between right 8 1 tt w some (omega arith)
 
-  half-is : 256 ^ w / 2 ≡ getD halves w 0
-  half-is = eqb→eq (256 ^ w / 2) (getD halves w 0) (both-left (eqb (256 ^ w / 2) (getD halves w 0)) (eqb (256 ^ w) (getD halves w 0 + getD halves w 0)) holds)
+  rest : T (both (leb (256 ^ w / 2) (2 ^ 63)) (eqb (256 ^ w) (256 ^ w / 2 + 256 ^ w / 2)))
+  rest = both-right (leb 1 (256 ^ w / 2)) _ holds
 
-  pub whole-is : 256 ^ w ≡ getD halves w 0 + getD halves w 0
-  whole-is = eqb→eq (256 ^ w) (getD halves w 0 + getD halves w 0) (both-right (eqb (256 ^ w / 2) (getD halves w 0)) (eqb (256 ^ w) (getD halves w 0 + getD halves w 0)) holds)
+  pub half-some : 0 < 256 ^ w / 2
+  half-some = leb→le 1 (256 ^ w / 2) (both-left (leb 1 (256 ^ w / 2)) _ holds)
 
-  module _ (x : ℕ) where
-    pub extend-plus : x < getD halves w 0 → x ≡ extended w x
+  pub half-small : 256 ^ w / 2 ≤ 2 ^ 63
+  half-small = leb→le (256 ^ w / 2) (2 ^ 63) (both-left (leb (256 ^ w / 2) (2 ^ 63)) _ rest)
+
+  pub whole-is : 256 ^ w ≡ 256 ^ w / 2 + 256 ^ w / 2
+  whole-is = eqb→eq (256 ^ w) (256 ^ w / 2 + 256 ^ w / 2) (both-right (leb (256 ^ w / 2) (2 ^ 63)) _ rest)
+
+  module _ (x h : ℕ) (half : h ≡ 256 ^ w / 2) where
+    pub extend-plus : x < h → x ≡ extended w x
     unfolding extended
-    extend-plus h = rw (half-is, lt-ltb _ _ h)
+    extend-plus k = rw (lt-ltb _ _ (rw half at k))
 
-    pub extend-minus : (y : ℕ) → getD halves w 0 ≤ x → y ≡ x + (2 ^ 64 - 256 ^ w) → y ≡ extended w x
+    pub extend-minus : (y : ℕ) → h ≤ x → y ≡ x + (2 ^ 64 - 256 ^ w) → y ≡ extended w x
     unfolding extended
-    extend-minus y h e = rw (half-is, le-ltb _ _ h, e)
-
--- half of what eight bytes can hold is the most
-pub half-small : (w : ℕ) → 0 < w → w ≤ 8 → getD halves w 0 ≤ 2 ^ 63
-half-small w some fits = leb→le (getD halves w 0) (2 ^ 63) (between (λ n. leb (getD halves n 0) (2 ^ 63)) 8 1 tt w some (omega arith))
-
-pub half-some : (w : ℕ) → 0 < w → w ≤ 8 → 0 < getD halves w 0
-half-some w some fits = leb→le 1 (getD halves w 0) (between (λ n. leb 1 (getD halves n 0)) 8 1 tt w some (omega arith))
+    extend-minus y k e = rw (le-ltb _ _ (rw half at k), e)
 
 -- half the range added, wrapping, and taken off again: the bits read as a signed number
 module _ (x r : ℕ) (fits : x < 2 ^ 32) (is : r ≡ (x + 2 ^ 31) % 2 ^ 32) where

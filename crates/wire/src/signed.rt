@@ -1,29 +1,33 @@
 // Signed numbers: the word of a value row, and the i32 that a union's labels are compared with.
 ghost use mathlib.Core.Path.{_≡_};
-ghost use Prim.Native.Nat.{_≤_, _<_, _^_};
+ghost use Prim.Native.Nat.{_≤_, _<_, _/_, _^_};
 ghost use mir.Syntax.{w32};
 ghost use mir.Val.{toZ};
 ghost use Rattle.wire.specs.Signed.{extended};
 
-// By width: the first number that is negative.
-const HALF: [u64; 9] = [
-    0,
-    0x80,
-    0x8000,
-    0x80_0000,
-    0x8000_0000,
-    0x80_0000_0000,
-    0x8000_0000_0000,
-    0x80_0000_0000_0000,
-    0x8000_0000_0000_0000,
-];
+// The first number of `width` bytes that is negative.
+fn half_of(width: usize) -> u64
+    requires { ⌜ (0 < width) × (width ≤ 8) ⌝ }
+    ensures { λ r. ⌜ r ≡ 256 ^ width / 2 ⌝ }
+{
+    match width {
+        1 => 0x80,
+        2 => 0x8000,
+        3 => 0x80_0000,
+        4 => 0x8000_0000,
+        5 => 0x80_0000_0000,
+        6 => 0x8000_0000_0000,
+        7 => 0x80_0000_0000_0000,
+        _ => 0x8000_0000_0000_0000,
+    }
+}
 
 // The 64-bit word of a number of `width` bytes in two's complement.
 pub fn extend(x: u64, width: usize) -> u64
     requires { ⌜ (0 < width) × (width ≤ 8) × (x < 256 ^ width) ⌝ }
     ensures { λ r. ⌜ r ≡ extended width x ⌝ }
 {
-    let half = HALF[width];
+    let half = half_of(width);
     if x < half {
         return x;
     }
