@@ -3,6 +3,7 @@ use Prim.Native.Nat.{ℕ, zero, suc, _+_, _-_, _*_, _<_, _≤_}
 use mathlib.Core.Path.{_≡_, refl, sym, ap, _∙_}
 use mathlib.Core.Bool.{Bool, true, false}
 use mathlib.Core.List.{List, [], _∷_}
+use native.Mathlib.Nat.{add-assoc}
 use native.Mathlib.Omega.{arith}
 use lib.ListN.{length, getD, drop, List·getD-eq-default, drop-of-length-le, length-drop}
 use lib.Seq.{getD-drop, drop-drop, drop-length}
@@ -37,6 +38,22 @@ module _ (b : List ℕ) (p k l : ℕ) (e : l ≡ length (from b p)) where
   pub byte-here : (r : ℕ) → r ≡ getD b (p + k) 0 → r ≡ byte (from b p) k
   unfolding from
   byte-here r d = d ∙ sym (getD-drop p b k 0)
+
+  -- n bytes that are there
+  pub fits : (n : ℕ) → 0 < n → k + n ≤ l → p + k + n ≤ length b
+  unfolding from
+  fits n some h = omega (arith, length-drop p b)
+
+  pub pair-here : (r : ℕ) → r ≡ getD b (p + k) 0 * 256 + getD b (p + k + 1) 0 → r ≡ pair (from b p) k
+  unfolding from
+  pair-here r d = rw (getD-drop p b k 0, getD-drop p b (k + 1) 0, ← (add-assoc p k 1)) d
+
+  pub quad-here : (r : ℕ) → r ≡ ((getD b (p + k) 0 * 256 + getD b (p + k + 1) 0) * 256 + getD b (p + k + 2) 0) * 256 + getD b (p + k + 3) 0 → r ≡ quad (from b p) k
+  unfolding from
+  quad-here r d =
+      let e2 : p + (k + 2) ≡ p + k + 2 = omega arith in
+      let e3 : p + (k + 2 + 1) ≡ p + k + 3 = omega arith in
+      rw (getD-drop p b k 0, getD-drop p b (k + 1) 0, getD-drop p b (k + 2) 0, getD-drop p b (k + 2 + 1) 0, ← (add-assoc p k 1), e2, e3) (omega (arith, d))
 
 -- the place n after p
 module _ (b : List ℕ) (p n : ℕ) where

@@ -26,11 +26,15 @@ pub fn byte_at(b: &[u8], p: usize, k: usize) -> usize
     ground::wide(b[i]) as usize
 }
 
-// The number of two bytes.
+// The number of two bytes: where both are there one load, as the machine has it.
 pub fn pair_at(b: &[u8], p: usize, k: usize) -> usize
     requires { ⌜ k < 2 ^ 33 ⌝ }
     ensures { λ r. ⌜ (r ≡ pair (from (now (b .entry)) p) k) × (r < 65536) ⌝ }
 {
+    if k + 2 <= left_at(b, p) {
+        let i = p + k;
+        return wire::number::two(b[i], b[i + 1]) as usize;
+    }
     byte_at(b, p, k) * 256 + byte_at(b, p, k + 1)
 }
 
@@ -39,6 +43,10 @@ pub fn quad_at(b: &[u8], p: usize, k: usize) -> u32
     requires { ⌜ k < 2 ^ 32 ⌝ }
     ensures { λ r. ⌜ r ≡ quad (from (now (b .entry)) p) k ⌝ }
 {
+    if k + 4 <= left_at(b, p) {
+        let i = p + k;
+        return wire::number::four(b[i], b[i + 1], b[i + 2], b[i + 3]) as u32;
+    }
     (pair_at(b, p, k) * 65536 + pair_at(b, p, k + 2)) as u32
 }
 

@@ -69,14 +69,14 @@ fn from_each_byte(s: &[u8], order: ByteOrder, pos: usize, width: usize) -> u64
 }
 
 // The number of two bytes, the first the higher.
-fn two(a: u8, b: u8) -> u64
+pub fn two(a: u8, b: u8) -> u64
     ensures { λ r. ⌜ (r ≡ a * 256 + b) × (r < 256 ^ 2) ⌝ }
 {
     ground::wide(a) * 256 + ground::wide(b)
 }
 
 // The number of four bytes, the first the highest.
-fn four(a: u8, b: u8, c: u8, d: u8) -> u64
+pub fn four(a: u8, b: u8, c: u8, d: u8) -> u64
     ensures { λ r. ⌜ (r ≡ ((a * 256 + b) * 256 + c) * 256 + d) × (r < 256 ^ 4) ⌝ }
 {
     ((ground::wide(a) * 256 + ground::wide(b)) * 256 + ground::wide(c)) * 256 + ground::wide(d)
