@@ -3,6 +3,7 @@
 //   bench count CALLS    makes CALLS calls of each side, with `bench_mark` before each region, where callgrind ends a count
 //   bench time ROUNDS    native time: in each round every side has its turn
 //   bench stack          bytes of stack
+//   bench one CALLS MESSAGE SIDE    CALLS calls of one side, for a profiler
 // A line for each side: message, side, value.
 extern crate alloc;
 extern crate self as dust_dds;
@@ -52,7 +53,7 @@ extern "C" {
 
 /// The rows of a message, after a check that the port and the crate agree on it.
 fn rows_of(c: &Case) -> usize {
-    let (mut table, mut again) = (vec![!0; 4 * 100_000], vec![!0; 4 * 100_000]);
+    let (mut table, mut again) = (vec![!0; 4 * 20_000], vec![!0; 4 * 20_000]);
     let mut index = [0; 65];
     let answer = port::read(&c.book, c.root, &c.message, &mut table);
     assert_eq!(port::prepare(&c.book, &mut index), 0, "{}: prepare", c.name);
@@ -157,6 +158,10 @@ fn main() {
         "count" => count(&mut sides, number()),
         "time" => time(&mut sides, number()),
         "stack" => stack(&mut sides),
+        "one" => {
+            let mut one = sides.into_iter().filter(|s| s.message == args[3] && s.name == args[4]);
+            count(&mut [one.next().expect("a message and a side")], number());
+        }
         other => panic!("bench: no {other}"),
     }
 }
