@@ -11,11 +11,12 @@ missed = []
 
 
 def lines(name):
-    """What the program wrote: message -> side -> number."""
+    """What the program wrote: message -> side -> number, the least of several runs."""
     all = {}
     for line in open(f"{folder}/{name}"):
         message, side, number = line.rstrip("\n").split("\t")
-        all.setdefault(message, {})[side] = float(number)
+        sides = all.setdefault(message, {})
+        sides[side] = min(float(number), sides.get(side, float(number)))
     return all
 
 
