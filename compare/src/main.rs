@@ -9,6 +9,7 @@ macro_rules! debug {
     ($($t:tt)*) => {};
 }
 
+mod agree;
 mod book;
 mod books;
 mod broken;
@@ -26,7 +27,7 @@ mod written;
 pub mod xtypes;
 
 use gen::Case;
-use oracle::{Answer, Oracle, Row};
+use oracle::Oracle;
 use port::{Batch, Port, Reply};
 use rules::Reading;
 use tally::Tally;
@@ -66,40 +67,7 @@ pub fn differs(case: &Case, rules: &Reading, got: &Reply) -> Option<String> {
         return None;
     }
     let crate_says = Oracle::new(&case.types).read(case.root, &case.message);
-    differs_from_crate(&crate_says, got, &case.message)
-}
-
-fn differs_from_crate(expected: &Answer, got: &Reply, message: &[u8]) -> Option<String> {
-    match expected {
-        Answer::Broken(why) => Some(format!("the crate ended with: {why}")),
-        Answer::Refused(n) if *n == got.number => None,
-        Answer::Refused(n) => Some(format!("the crate gives {n}, the port {} with {} rows", got.number, got.count)),
-        Answer::Read(_) if got.number != 0 => Some(format!("the crate reads, the port gives {}", got.number)),
-        Answer::Read(rows) if rows.len() != got.rows.len() => Some(format!("the crate stores {} rows, the port {}", rows.len(), got.rows.len())),
-        Answer::Read(rows) => {
-            let data = &message[4..];
-            let at = rows.iter().zip(&got.rows).position(|(r, g)| !same(r, g, data, message[1] % 2 == 0))?;
-            Some(format!("row {at}: the crate {:?}, the port {:?}", rows[at], got.rows[at]))
-        }
-    }
-}
-
-fn same(expected: &Row, got: &[u64; 4], data: &[u8], big: bool) -> bool {
-    match expected {
-        Row::Words(w) => w == got,
-        Row::Text { kind, id, text } => *kind == got[0] && *id == got[1] && text_at(got, data, big).as_ref() == Some(text),
-    }
-}
-
-/// The characters of a text row, by its place in the data.
-fn text_at(row: &[u64; 4], data: &[u8], big: bool) -> Option<String> {
-    let n = if row[0] == 17 { row[3].checked_mul(2)? } else { row[3] };
-    let part = data.get(row[2] as usize..row[2].checked_add(n)? as usize)?;
-    if row[0] == 16 {
-        return String::from_utf8(part.to_vec()).ok();
-    }
-    let units: Vec<u16> = part.chunks(2).map(|u| if big { u16::from_be_bytes([u[0], u[1]]) } else { u16::from_le_bytes([u[0], u[1]]) }).collect();
-    String::from_utf16(&units).ok()
+    agree::differs(&crate_says, got.number, &got.rows, &case.message)
 }
 
 pub fn ask(port: &Port, case: &Case, words: usize) -> Reply {

@@ -1,0 +1,99 @@
+#!/usr/bin/env python3
+"""report.py WHAT DIR: the tables of a run, and the goals that it misses. DIR has what the program wrote (count, time, stack) and
+callgrind's counts (cg.1, cg.2, ..). From every number that of an empty call is taken away."""
+import re
+import sys
+
+SERIES = ["1 KB", "4 KB", "16 KB", "64 KB"]
+FACTS = ["bytes", "rows", "book"]
+what, folder = sys.argv[1:]
+missed = []
+
+
+def lines(name):
+    """What the program wrote: message -> side -> number, the least of several runs."""
+    all = {}
+    for line in open(f"{folder}/{name}"):
+        message, side, number = line.rstrip("\n").split("\t")
+        sides = all.setdefault(message, {})
+        sides[side] = min(float(number), sides.get(side, float(number)))
+    return all
+
+
+def total(number):
+    found = re.findall(r"^(?:totals|summary): (\d+)", open(f"{folder}/cg.{number}").read(), re.M)
+    return int(found[-1])
+
+
+def counts():
+    """Each side's region is between two marks, so it is every second of callgrind's counts."""
+    all, at = lines("count"), 0
+    for message in sorted_by_run(all):
+        for side in [s for s in all[message] if s not in FACTS]:
+            at += 2
+            all[message][side] = total(at) / all[message][side]
+    return all
+
+
+def sorted_by_run(all):
+    """The empty call is first in the run; its lines may come later."""
+    return sorted(all, key=lambda m: m != "-")
+
+
+def net(all):
+    empty = all.pop("-")["empty"]
+    return {m: {s: v if s in FACTS else v - empty for s, v in sides.items()} for m, sides in all.items()}
+
+
+def goals(message):
+    return {"prepared": 1.0 if message == "waveform" else 0.5, "whole": 1.0}
+
+
+def ratio(message, sides, side, unit):
+    r = sides[side] / sides["crate"]
+    goal = goals(message)[side]
+    if r > goal:
+        missed.append(f"{message}, {side}, {unit}: {r:.2f} of the crate's, {goal} asked")
+    return f"{r:7.2f}{'*' if r > goal else ' '}"
+
+
+def table(title, all, unit):
+    print(f"\n{title}")
+    print(f"{'message':<12}{'bytes':>7}{'rows':>7}{'book':>6}{'crate':>11}{'prepared':>11}{'ratio':>8} {'whole':>11}{'ratio':>8} {'2048 rows':>11}")
+    for m, s in all.items():
+        big = s.get("prepared, 2048 rows")
+        facts = f"{m:<12}{s['bytes']:>7.0f}{s['rows']:>7.0f}{s['book']:>6.0f}{s['crate']:>11.0f}"
+        print(
+            f"{facts}{s['prepared']:>11.0f}{ratio(m, s, 'prepared', unit)}"
+            f"{s['whole']:>11.0f}{ratio(m, s, 'whole', unit)}{f'{big:>11.0f}' if big else '          -'}"
+        )
+
+
+def flat(all, unit):
+    """Cost per byte from 1 KB to 64 KB: no more than a fifth above the smallest."""
+    per = {m: all[m]["prepared"] / all[m]["bytes"] for m in SERIES}
+    print(f"{unit} a byte, prepared: " + ", ".join(f"{m} {v:.2f}" for m, v in per.items()))
+    if max(per.values()) > 1.2 * min(per.values()):
+        missed.append(f"{unit} a byte is not flat from 1 KB to 64 KB")
+
+
+def stack():
+    all = lines("stack")
+    empty = all["-"]["empty"]
+    print("\nbytes of stack below the caller")
+    for m in ["heartbeat", "nest F1 LE", "nest M2 LE"]:
+        print(f"{m:<12}" + "".join(f"  {s} {all[m][s] - empty:.0f}" for s in ["crate", "prepared", "whole"]))
+
+
+if what in ("count", "all"):
+    a = net(counts())
+    table("instructions a message (the table lent has the rows needed; last column: prepared with a table of 2,048 rows)", a, "instructions")
+    flat(a, "instructions")
+if what in ("time", "all"):
+    a = net(lines("time"))
+    table("nanoseconds a message, best (tables as above)", a, "nanoseconds")
+    flat(a, "nanoseconds")
+if what in ("stack", "all"):
+    stack()
+print(f"\n{len(missed)} goals missed (*)")
+sys.exit(bool(missed))

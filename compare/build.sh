@@ -1,0 +1,66 @@
+# What compare/run and bench/run share: the crate's text as they compile it, and the port's code as an object that nothing proves.
+# Sourced, with `root` the repository's root and `me` the name of who asks.
+xtypes=${XTYPES:-$root/../shared/docs/src/src/xtypes}
+[ -f "$xtypes/deserializer.rs" ] || { echo "$me: no deserializer.rs in $xtypes; set XTYPES ($me/run --help)" >&2 && exit 2; }
+m=$(uname -m)
+kit=${RATTLE_KIT:-$(cd "$(dirname "$(readlink -f "$(command -v rt)")")/.." && pwd -P)}
+tools=$kit/on/$m/toolchain
+x86=x86_64-unknown-linux-gnu
+
+# The crate's files as they are, but for the closing validation call, which document 01 leaves out, and two stand-ins beside them.
+crate_text() { # DIR
+    mkdir -p "$1"
+    cp "$root"/compare/stand-ins/*.rs "$xtypes"/{data_storage,dynamic_type,error}.rs "$1/"
+    sed '/^    if !dynamic_data.validate_dynamic_data() {$/,/^    }$/d' "$xtypes/deserializer.rs" >"$1/deserializer.rs"
+    edit=$(diff "$xtypes/deserializer.rs" "$1/deserializer.rs" | grep '^[<>]' || :)
+    if [ "$edit" != '<     if !dynamic_data.validate_dynamic_data() {
+<         return Err(XTypesError::InvalidData);
+<     }' ]; then
+        echo "$me: the closing validation call is not where it was in $xtypes/deserializer.rs" >&2
+        exit 2
+    fi
+}
+
+# The archive of the C interface, as target/staticlib/libsinotayam.a: rt proves it first.
+archive() { # LOG
+    (cd "$root" && rt staticlib sinotayam) >"$1" 2>&1 || { tail -n 20 "$1"; exit 1; }
+}
+
+# The same functions as REPO/port.o, from code that nothing proves: of a program that calls one, its module is kept.
+object() { # REPO LOG
+    repo=$1
+    rm -rf "$repo"
+    mkdir -p "$repo/crates/feed/src"
+    cp -r "$root"/crates/* "$repo/crates/"
+    cp "$root/crates.txt" "$repo/"
+    echo 'feed: sinotayam io libc' >>"$repo/crates.txt"
+    cat >"$repo/crates/feed/src/main.rt" <<'END'
+fn main() {
+    let mut table = [0u64; 4];
+    io::print_decimal(1, sinotayam::c::sinotayam_read(b"", 0, b"", &mut table));
+}
+END
+    printf 8 >"$repo/crates/feed/stdout"
+    kit_that_keeps_modules "$repo/kit"
+    (cd "$repo" && RATTLE_HOME=$repo/kit rt try feed) >"$2" 2>&1 || { tail -n 20 "$2"; exit 1; }
+    "$tools/bin/clang" --target=$x86 -x ir "$repo/kit/module-O3.bc" -S -emit-llvm -O0 -Xclang -disable-llvm-passes -o "$repo/m.ll"
+    sed -e '/^define internal .*@"sinotayam::c::sinotayam_/s/^define internal/define/' -e 's/@"sinotayam::c::sinotayam_\([a-z_]*\)"/@unproved_\1/g' -e 's/@main(/@rattle_main(/' "$repo/m.ll" >"$repo/n.ll"
+    "$tools/bin/clang" --target=$x86 -march=x86-64 -O3 -fPIC -mllvm -trap-unreachable -mllvm -no-trap-after-noreturn -x ir -c "$repo/n.ll" -o "$repo/port.o"
+}
+
+# A view of the kit whose clang also keeps the modules that it compiles, as DIR/module-O0.bc and DIR/module-O3.bc.
+kit_that_keeps_modules() { # DIR
+    mkdir -p "$1/on/$m/toolchain/bin"
+    for f in "$kit"/*; do [ "${f##*/}" = on ] || ln -sfn "$f" "$1/${f##*/}"; done
+    for f in "$kit/on/$m"/*; do [ "${f##*/}" = toolchain ] || ln -sfn "$f" "$1/on/$m/${f##*/}"; done
+    for f in "$tools"/*; do [ "${f##*/}" = bin ] || ln -sfn "$f" "$1/on/$m/toolchain/${f##*/}"; done
+    for f in "$tools"/bin/*; do [ "${f##*/}" = clang ] || ln -sfn "$f" "$1/on/$m/toolchain/bin/${f##*/}"; done
+    cat >"$1/on/$m/toolchain/bin/clang" <<END
+#!/bin/sh
+opt=O0
+for a in "\$@"; do case \$a in -O[0-3]) opt=\${a#-} ;; esac; done
+for a in "\$@"; do case \$a in *.bc) cp -f "\$a" "$1/module-\$opt.bc" ;; esac; done
+exec "$tools/bin/clang" "\$@"
+END
+    chmod +x "$1/on/$m/toolchain/bin/clang"
+}
