@@ -1,3 +1,4 @@
 pub mod Scalars
 pub mod Lists
 pub mod Headers
+pub mod Quickly

@@ -101,6 +101,16 @@ module _ (id kind : ℕ) (t : List ℕ) (n : ℕ) (g : Text) where
   unfolding onText
   text-short x e = is-short (rw e) (filled-none t n)
 
+-- the word of a number
+module _ (kind v : ℕ) (b : Bool) (is : b ≡ isSigned kind) where
+  pub word-signed : (w y : ℕ) → w ≡ alignOf kind → b ≡ true → y ≡ extended w v → y ≡ wordOf kind v
+  unfolding wordOf
+  word-signed w y e h f = rw (← is, h) (rw e at f)
+
+  pub word-plain : b ≡ false → v ≡ wordOf kind v
+  unfolding wordOf
+  word-plain h = rw (← is, h)
+
 -- a number's width is what its kind's entry says
 module _ (kind : ℕ) (e : Entry) (entry : e ≡ entryOf kind) where
   pub width-some : 0 < alignOf kind → 0 < e .align
@@ -109,22 +119,12 @@ module _ (kind : ℕ) (e : Entry) (entry : e ≡ entryOf kind) where
   pub width-most : alignOf kind ≤ 8 → e .align ≤ 8
   width-most h = rw entry h
 
-  pub width-below : (v : ℕ) → v < 256 ^ alignOf kind → v < 256 ^ e .align
-  width-below v h = rw entry h
-
-  pub word-signed : (v y : ℕ) (b : Bool) → b ≡ isSigned kind → b ≡ true → y ≡ extended (e .align) v → y ≡ wordOf kind v
-  unfolding wordOf
-  word-signed v y b is h f = rw (← is, h) (rw entry at f)
-
-  pub word-plain : (v : ℕ) (b : Bool) → b ≡ isSigned kind → b ≡ false → v ≡ wordOf kind v
-  unfolding wordOf
-  word-plain v b is h = rw (← is, h)
+  pub width-is : e .align ≡ alignOf kind
+  width-is = rw entry
 
   module _ (s : List ℕ) (set : Settings) (c : Cursor) (g : Number) (is : ReadIs s set c (e .align) g) where
-    pub number-below : (v : ℕ) (d : Cursor) → g ≡ number.Got v d → v < 256 ^ alignOf kind
-    number-below v d f =
-        let k : v < 256 ^ e .align = rw f at (is .small) in
-        rw entry at k
+    pub number-below : (v : ℕ) (d : Cursor) → g ≡ number.Got v d → v < 256 ^ e .align
+    number-below v d f = rw f at (is .small)
 
     module _ (id : ℕ) (t : List ℕ) (n : ℕ) where
       pub number-row : (v : ℕ) (d : Cursor) → g ≡ number.Got v d → (w : ℕ) → w ≡ wordOf kind v → (u : List ℕ) (r : Out) → Done (rowed (room t n) d (row (e .stored) id w 0)) n t u r

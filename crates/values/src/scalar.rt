@@ -71,14 +71,12 @@ fn float128(s: &[u8], set: Settings, t: &mut [u64], id: u64, at: Cursor, n: usiz
 }
 
 // The word of a number that was read: a signed one is extended.
-fn word_of(kind: u8, v: u64) -> u64
-    requires { ⌜ (0 < alignOf kind) × (alignOf kind ≤ 8) × (v < 256 ^ alignOf kind) ⌝ }
+pub fn word_of(kind: u8, width: usize, v: u64) -> u64
+    requires { ⌜ (width ≡ alignOf kind) × (0 < width) × (width ≤ 8) × (v < 256 ^ width) ⌝ }
     ensures { λ r. ⌜ r ≡ wordOf kind v ⌝ }
 {
-    let entry = kinds::of_kind(kind);
-    let width = entry.align;
     if kinds::is_signed(kind) {
-        return wire::signed::extend(v, width as usize);
+        return wire::signed::extend(v, width);
     }
     v
 }
@@ -88,14 +86,14 @@ fn number(s: &[u8], set: Settings, t: &mut [u64], kind: u8, id: u64, at: Cursor,
     ensures { λ r. ⌜ Done (onNumber kind id (room (now (t .entry)) n) (readNumber (now (s .entry)) set at (alignOf kind))) n (now (t .entry)) (now (t .exit)) r ⌝ }
 {
     let entry = kinds::of_kind(kind);
-    let width = entry.align;
+    let width = entry.align as usize;
     let stored = entry.stored;
-    match wire::number::read_number(s, set, at, width as usize) {
+    match wire::number::read_number(s, set, at, width) {
         Number::Got(v, c) => {
             let row = Row {
                 kind: stored as u64,
                 id,
-                a: word_of(kind, v),
+                a: word_of(kind, width, v),
                 b: 0,
             };
             give_row(t, n, c, row)

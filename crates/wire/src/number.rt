@@ -129,7 +129,7 @@ fn from_bytes(s: &[u8], order: ByteOrder, pos: usize, width: usize) -> u64
 }
 
 // The number where the cursor stands.
-fn number_here(s: &[u8], order: ByteOrder, at: Cursor, width: usize) -> Number
+pub fn number_here(s: &[u8], order: ByteOrder, at: Cursor, width: usize) -> Number
     requires { ⌜ width ≤ 8 ⌝ }
     ensures { λ r. ⌜ HereIs (now (s .entry)) order at width r ⌝ }
 {
