@@ -1,17 +1,19 @@
 -- Laws of lists of values that open nothing: the loop's start, turn and ends, and the list around it. Assumes nothing.
-use Prim.Native.Nat.{ℕ, suc, _+_, _-_, _≤_, _<_}
-use mathlib.Core.Path.{_≡_, sym, ap, _∙_}
+use Prim.Native.Nat.{ℕ, suc, _+_, _-_, _^_, _≤_, _<_}
+use mathlib.Core.Path.{_≡_, refl, sym, ap, _∙_}
 use mathlib.Core.Bool.{Bool, true, false}
 use mathlib.Core.List.{List, [], _∷_}
 use native.Mathlib.Nat.{sub-zero}
 use native.Mathlib.Omega.{arith}
+use mir.Syntax.{w64}
+use mir.Val.{Fits}
 use lib.ListN.{length}
 use Rattle.wire.specs.declared.cursor.Cursor.{Cursor}
 use Rattle.wire.specs.declared.cursor.Shortage.{Shortage}
 use Rattle.wire.specs.declared.cursor.Place.{Place}
 use Rattle.wire.specs.declared.cursor.Place.the-variants as place
 use Rattle.wire.specs.declared.settings.Settings.{Settings}
-use Rattle.wire.specs.Place.{seekTo}
+use Rattle.wire.specs.Place.{cursorAt, seekTo}
 use Rattle.kinds.specs.declared.Entry.{Entry}
 use Rattle.kinds.specs.Kinds.{storedOf, entryOf}
 use Rattle.table.specs.declared.out.Refusal.{Refusal}
@@ -20,10 +22,12 @@ use Rattle.table.specs.declared.out.Out.{Out}
 use Rattle.table.specs.declared.out.Out.the-variants.{Read, Short, Refused}
 use Rattle.table.specs.Rows.{row, room, noRoom, putRow, Filled}
 use Rattle.table.specs.Outcome.{Outcome, read, prepend, andThen, Done}
-use Rattle.table.proofs.Filling.{filled-none, filled-one, full-fits, room-used}
+use Rattle.table.proofs.Filling.{filled-fits, filled-none, filled-one, full-fits, room-used}
 use Rattle.table.proofs.Outcomes.{is-short, is-refused, is-same, is-after, no-room, some-room, was-read, was-short, was-refused, then-read, then-short, then-refused, Sofar, sofar-start, sofar-more, sofar-read, sofar-short, sofar-refused}
 use Rattle.values.specs.Scalar.{scalarOf}
 use Rattle.values.specs.List.{elementsFrom, listOf, onBlock, blockOf}
+use Rattle.values.specs.Quick.{Quickly}
+use Rattle.values.proofs.Quickly.{quick-done, quick-none}
 
 module _ (s : List ℕ) (set : Settings) (kind count : ℕ) where
   more : (i : ℕ) (c : Cursor) (k : ℕ) → i < count → elementsFrom s set kind (count - i) i c k ≡ andThen (scalarOf s set kind i c k) (λ d used. elementsFrom s set kind (count - (i + 1)) (i + 1) d (k - used))
@@ -40,6 +44,17 @@ module _ (s : List ℕ) (set : Settings) (kind count : ℕ) where
 
   pub elements-start : (c : Cursor) (t : List ℕ) (n : ℕ) → ElementsSofar (elementsFrom s set kind count 0 c (room t n)) n t t 0 c n
   elements-start c t n = sofar-start (rw sub-zero)
+
+  -- where the quick way took nothing, and where it took all
+  module _ (c : Cursor) (t u : List ℕ) (n r : ℕ) (q : Quickly (elementsFrom s set kind count 0 c (room t n)) count n (c .origin) t u r) where
+    pub quick-else : r ≤ 0 → (v : List ℕ) (x : Out) → Done (elementsFrom s set kind count 0 c (room u n)) n u v x → Done (elementsFrom s set kind count 0 c (room t n)) n t v x
+    quick-else h v x d = rw (quick-none _ count n (c .origin) t u r h q) at d
+
+    pub quick-all : 0 < r → (d : Cursor) → d ≡ cursorAt r (c .origin) → Done (elementsFrom s set kind count 0 c (room t n)) n t u (Read d (n + count))
+    quick-all h d e = rw e (quick-done count r h q)
+
+    pub quick-count : 0 < r → length t < 2 ^ 64 → n < 2 ^ 64 → Fits w64 (n + count)
+    quick-count h k l = let w = was-read (quick-done count r h q) refl in omega (arith, w .count, filled-fits (w .filled))
 
   module _ (whole : Outcome) (n : ℕ) (t u : List ℕ) (i : ℕ) (c : Cursor) (m : ℕ) (inv : ElementsSofar whole n t u i c m) where
     module _ (l : i < count) (v : List ℕ) (r : Out) (h : Done (scalarOf s set kind i c (room u m)) m u v r) where

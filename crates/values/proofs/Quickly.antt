@@ -1,14 +1,14 @@
 -- Laws of the quick way: what it takes is what `scalarOf` says. Assumes nothing.
 use Prim.Native.Nat.{ℕ, zero, suc, _+_, _*_, _≤_, _<_, _^_}
 use mathlib.Core.Path.{_≡_, refl, sym, ap, _∙_}
-use mathlib.Core.Bool.{Bool, true, false, not}
+use mathlib.Core.Bool.{Bool, true, false, not, _&&_}
 use mathlib.Core.List.{List, [], _∷_}
 use native.Mathlib.Omega.{arith}
 use lib.ListN.{length}
 use lib.Dec.{T, eqb, leb, leb→le}
 use borrow.Author.Tests.{ne-eqb}
 use Rattle.ground.specs.Choice.{both, _‥_, within}
-use Rattle.ground.proofs.Tests.{both-left, both-right, inside}
+use Rattle.ground.proofs.Tests.{and-both, both-left, both-right, inside}
 use Rattle.wire.specs.declared.cursor.Cursor.{Cursor}
 use Rattle.wire.specs.declared.cursor.Shortage.{Shortage}
 use Rattle.wire.specs.declared.settings.Settings.{Settings}
@@ -30,26 +30,31 @@ use Rattle.values.specs.Quick.{isNumber, Quickly}
 use Rattle.values.proofs.Scalars.{row-given}
 
 -- what an answer of the quick way tells
-module _ {o : Outcome} {n origin : ℕ} {a b : List ℕ} where
-  pub quick-is : (r : ℕ) → 0 < r → Done o n a b (Read (cursorAt r origin) (n + 1)) → Quickly o n origin a b r
+module _ {o : Outcome} (k : ℕ) {n origin : ℕ} {a b : List ℕ} where
+  pub quick-is : (r : ℕ) → 0 < r → Done o n a b (Read (cursorAt r origin) (n + k)) → Quickly o k n origin a b r
   unfolding Quickly
   quick-is zero h d = absurd (omega arith)
   quick-is (suc p) h d = d
 
-  pub quick-done : (r : ℕ) → 0 < r → Quickly o n origin a b r → Done o n a b (Read (cursorAt r origin) (n + 1))
+  pub quick-done : (r : ℕ) → 0 < r → Quickly o k n origin a b r → Done o n a b (Read (cursorAt r origin) (n + k))
   unfolding Quickly
   quick-done zero h q = absurd (omega arith)
   quick-done (suc p) h q = q
 
-module _ (o : Outcome) (n origin : ℕ) (a b : List ℕ) where
-  pub quick-none : (r : ℕ) → r ≤ 0 → Quickly o n origin a b r → b ≡ a
+module _ (o : Outcome) (k n origin : ℕ) (a b : List ℕ) where
+  pub quick-none : (r : ℕ) → r ≤ 0 → Quickly o k n origin a b r → b ≡ a
   unfolding Quickly
   quick-none zero h q = q
   quick-none (suc p) h q = absurd (omega arith)
 
-pub quick-not : (o : Outcome) (n origin : ℕ) (a : List ℕ) → Quickly o n origin a a 0
+pub quick-not : (o : Outcome) (k n origin : ℕ) (a : List ℕ) → Quickly o k n origin a a 0
 unfolding Quickly
-quick-not o n origin a = refl
+quick-not o k n origin a = refl
+
+pub quick-zero : (o : Outcome) (k n origin : ℕ) (a : List ℕ) (r : ℕ) → r ≤ 0 → Quickly o k n origin a a r
+unfolding Quickly
+quick-zero o k n origin a zero h = refl
+quick-zero o k n origin a (suc r) h = absurd (omega arith)
 
 pub free-fits : (t : List ℕ) (n : ℕ) → noRoom t n ≡ false → width * n + width ≤ length t
 free-fits t n e = full-fits t n (noRoom t n) refl e
@@ -68,14 +73,19 @@ module _ (kind k : ℕ) (e : kind ≡ k) where
   pub width-known : (x : ℕ) → x ≡ alignOf k → x ≡ alignOf kind
   width-known x h = rw e h
 
+-- the code's test
+pub is-number : (kind : ℕ) → ((leb 2 kind && leb kind 14) && not (eqb kind 11)) ≡ isNumber kind
+unfolding isNumber
+is-number kind = and-both (leb 2 kind && leb kind 14) (not (eqb kind 11)) ∙ ap (λ (x : Bool). both x (not (eqb kind 11))) (and-both (leb 2 kind) (leb kind 14))
+
 -- a number's kind is a primitive other than those that have their own way
 module _ (kind : ℕ) (num : isNumber kind ≡ true) where
-  record Ranged : Type 0 where
-    from : 2 ≤ kind
-    to : kind ≤ 14
-    other : kind ≡ 11 → ⊥
+  pub record Ranged : Type 0 where
+    pub from : 2 ≤ kind
+    pub to : kind ≤ 14
+    pub other : kind ≡ 11 → ⊥
 
-  ranged : Ranged
+  pub ranged : Ranged
   unfolding isNumber
   ranged =
       let t : T (both (within (2 ‥ 14) kind) (not (eqb kind 11))) = rw num tt in
@@ -111,7 +121,7 @@ module _ (kind : ℕ) (num : isNumber kind ≡ true) where
     read-below v d f = rw f at (is .small)
 
     pub quick-number : (v : ℕ) (d : Cursor) → g ≡ number.Got v d → (x : ℕ) → x ≡ wordOf kind v → (y : ℕ) → y ≡ storedOf kind → noRoom t n ≡ false → (u : List ℕ) → u ≡ putRow t n (row y id x 0)
-        → Quickly (scalarOf s set kind id c (room t n)) n (c .origin) t u (d .pos)
+        → Quickly (scalarOf s set kind id c (room t n)) 1 n (c .origin) t u (d .pos)
     unfolding onNumber
     quick-number v d f x word y stored free u put =
         let z : readNumber s set c w ≡ number.Got v d = sym (is .is) ∙ f in
@@ -121,4 +131,4 @@ module _ (kind : ℕ) (num : isNumber kind ≡ true) where
         let p : u ≡ putRow t n (row (storedOf kind) id (wordOf kind v) 0) = rw (stored, word) at put in
         let h : Done (rowed (room t n) d (row (storedOf kind) id (wordOf kind v) 0)) n t u (Read d (n + 1)) = row-given t n (noRoom t n) refl d _ free u p in
         let k : Done (scalarOf s set kind id c (room t n)) n t u (Read d (n + 1)) = is-same (number-is s set id c (room t n) ∙ rw q) h in
-        quick-is (d .pos) (omega (arith, m .on, wide, number-some)) (rw at at k)
+        quick-is 1 (d .pos) (omega (arith, m .on, wide, number-some)) (rw at at k)

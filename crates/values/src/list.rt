@@ -13,15 +13,7 @@ use wire::cursor::Place;
 use wire::settings::Settings;
 
 // The elements, one by one.
-pub fn elements(
-    s: &[u8],
-    set: Settings,
-    t: &mut [u64],
-    kind: u8,
-    count: u64,
-    at: Cursor,
-    n: usize,
-) -> Out
+fn each(s: &[u8], set: Settings, t: &mut [u64], kind: u8, count: u64, at: Cursor, n: usize) -> Out
     ensures { λ r. ⌜ Done (elementsFrom (now (s .entry)) set kind count 0 at (room (now (t .entry)) n)) n (now (t .entry)) (now (t .exit)) r ⌝ }
 {
     let mut i: u64 = 0;
@@ -43,6 +35,25 @@ pub fn elements(
         i += 1;
     }
     Out::Read(c, m)
+}
+
+// The elements: all at once where they are numbers that are there whole, else one by one.
+pub fn elements(
+    s: &[u8],
+    set: Settings,
+    t: &mut [u64],
+    kind: u8,
+    count: u64,
+    at: Cursor,
+    n: usize,
+) -> Out
+    ensures { λ r. ⌜ Done (elementsFrom (now (s .entry)) set kind count 0 at (room (now (t .entry)) n)) n (now (t .entry)) (now (t .exit)) r ⌝ }
+{
+    let past = crate::quick::run(s, set, t, kind, count, at, n);
+    if 0 < past {
+        return Out::Read(Cursor::new(past, at.origin), n + (count as usize));
+    }
+    each(s, set, t, kind, count, at, n)
 }
 
 // The list's row, then its elements.

@@ -1,10 +1,10 @@
 -- Laws of a cursor's moves. Assumes nothing.
-use Prim.Native.Nat.{ℕ, _<_, _≤_, _+_, _-_, _%_}
-use mathlib.Core.Path.{_≡_, refl, ap, _∙_}
+use Prim.Native.Nat.{ℕ, zero, suc, _<_, _≤_, _+_, _-_, _%_}
+use mathlib.Core.Path.{_≡_, refl, sym, ap, _∙_}
 use mathlib.Core.Bool.{Bool, true, false}
 use mathlib.Core.List.{List}
 use native.Mathlib.Omega.{arith}
-use native.Mathlib.Nat.{mod-lt, mod-self, zero-mod, sub-zero, sub-eq-zero-of-le, le-of-lt}
+use native.Mathlib.Nat.{mod-lt, mod-self, zero-mod, mod-eq-of-lt, add-mod, add-mod-mod, mod-add-mod, add-sub-of-le, sub-zero, sub-eq-zero-of-le, le-of-lt}
 use lib.ListN.{length}
 use lib.Dec.{leb, lit<}
 use borrow.Author.Tests.{le-leb, lt-leb, leb-true, leb-false}
@@ -50,6 +50,28 @@ padding-one c a e = rw e (let h : (1 - (c .pos - c .origin) % 1) % 1 < 1 = mod-l
 
 pub rest-below : (x a : ℕ) → 0 < a → x % a ≤ a
 rest-below x a h = le-of-lt (mod-lt x h)
+
+-- what is aligned stays so past a multiple of the alignment, and what was aligned is
+rest-none : (r a : ℕ) → 0 < a → r < a → (a - r) % a ≡ 0 → r ≡ 0
+rest-none zero a h l e = refl
+rest-none (suc r) a h l e = absurd (let k : (a - suc r) % a ≡ a - suc r = mod-eq-of-lt (omega arith) in omega (arith, sym k ∙ e))
+
+module _ (c : Cursor) (a : ℕ) (some : 0 < a) (after : c .origin ≤ c .pos) where
+  pub still-aligned : (w : ℕ) → w % a ≡ 0 → paddingOf c a ≡ 0 → paddingOf (moved c w) a ≡ 0
+  unfolding paddingOf
+  still-aligned w e h =
+      let z : (c .pos - c .origin) % a ≡ 0 = rest-none _ a some (mod-lt (c .pos - c .origin) some) h in
+      let k : c .pos + w - c .origin ≡ c .pos - c .origin + w = omega arith in
+      rw (k, add-mod (c .pos - c .origin) w a, z, e, zero-mod a, sub-zero, mod-self a)
+
+  pub padded-aligned : paddingOf (moved c (paddingOf c a)) a ≡ 0
+  unfolding paddingOf
+  padded-aligned =
+      let k : c .pos + (a - (c .pos - c .origin) % a) % a - c .origin ≡ c .pos - c .origin + (a - (c .pos - c .origin) % a) % a = omega arith in
+      let z : (c .pos - c .origin + (a - (c .pos - c .origin) % a) % a) % a ≡ 0 =
+      add-mod-mod (c .pos - c .origin) (a - (c .pos - c .origin) % a) a ∙ sym (mod-add-mod (c .pos - c .origin) a (a - (c .pos - c .origin) % a))
+      ∙ ap (λ (y : ℕ). y % a) (add-sub-of-le (le-of-lt (mod-lt (c .pos - c .origin) some))) ∙ mod-self a in
+      rw (k, z, sub-zero, mod-self a)
 
 module _ (s : List ℕ) (c : Cursor) (n : ℕ) where
   pub seek-at : c .pos + n ≤ length s → At (moved c n) ≡ seekTo s c n

@@ -6,7 +6,8 @@ use mathlib.Core.List.{List}
 use native.Mathlib.Omega.{arith}
 use lib.ListN.{length}
 use borrow.Author.Tests.{ne-eqb}
-use Rattle.wire.specs.Place.{moved, seekTo, alignTo}
+use native.Mathlib.Nat.{add-zero}
+use Rattle.wire.specs.Place.{cursorAt, moved, alignmentOf, paddingOf, seekTo, alignTo}
 use Rattle.wire.specs.Number.{numberAt, onBytes, numberHere, onAligned, readNumber, halvesOf, float128Here, readFloat128, booleanIn, onByte, readBoolean, afterNumber, HereIs, ReadIs}
 use Rattle.wire.specs.declared.settings.ByteOrder.{ByteOrder}
 use Rattle.wire.specs.declared.settings.ByteOrder.the-variants.{BigEndian, LittleEndian}
@@ -21,7 +22,7 @@ use Rattle.wire.specs.declared.number.Float128.{Float128}
 use Rattle.wire.specs.declared.number.Float128.the-variants as float128
 use Rattle.wire.specs.declared.number.Boolean.{Boolean}
 use Rattle.wire.specs.declared.number.Boolean.the-variants as boolean
-use Rattle.wire.proofs.Moves.{seek-inv, align-inv}
+use Rattle.wire.proofs.Moves.{seek-at, seek-inv, align-inv}
 use Rattle.wire.proofs.Digits.{be-words, le-words, low-word, high-word}
 
 -- where the cursor stands
@@ -131,6 +132,18 @@ module _ (s : List ℕ) where
   pub read-inv : (set : Settings) (c : Cursor) (w v : ℕ) (d : Cursor) → readNumber s set c w ≡ number.Got v d → Moved s c w d
   unfolding readNumber
   read-inv set c w v d e = aligned-inv (set .order) set w v c d (alignTo s (set .version) c w) refl e
+
+-- a number that is there, past its alignment or with none to pass
+module _ (s : List ℕ) (set : Settings) (c : Cursor) (w : ℕ) where
+  pub read-past : (d : Cursor) → alignTo s (set .version) c w ≡ place.At d → d .pos + w ≤ length s → readNumber s set c w ≡ number.Got (numberAt (set .order) 0 s (d .pos) w) (moved d w)
+  unfolding readNumber onAligned numberHere onBytes
+  read-past d e h = rw (e, ← (seek-at s d w h))
+
+  pub read-aligned : paddingOf c (alignmentOf (set .version) w) ≡ 0 → c .pos + w ≤ length s → readNumber s set c w ≡ number.Got (numberAt (set .order) 0 s (c .pos) w) (moved c w)
+  unfolding alignTo
+  read-aligned z h =
+      let k : seekTo s c 0 ≡ place.At c = sym (seek-at s c 0 (omega arith)) ∙ ap (λ (p : ℕ). place.At (cursorAt p (c .origin))) (add-zero (c .pos)) in
+      read-past c (rw z k) h
 
 -- what follows a number, by how its read went
 module _ {A : Type 0} (short : Shortage → A) (next : ℕ → Cursor → A) {n : Number} where

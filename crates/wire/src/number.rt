@@ -116,7 +116,7 @@ fn eight_bytes(s: &[u8], order: ByteOrder, p: usize) -> u64
 }
 
 // Each width that a kind has is one load of the machine's; a loop over bytes would be eight.
-fn from_bytes(s: &[u8], order: ByteOrder, pos: usize, width: usize) -> u64
+pub fn from_bytes(s: &[u8], order: ByteOrder, pos: usize, width: usize) -> u64
     requires { ⌜ (pos + width ≤ length (now s)) × (width ≤ 8) ⌝ }
     ensures { λ r. ⌜ (r ≡ numberAt order 0 (now (s .entry)) pos width) × (r < 256 ^ width) ⌝ }
 {
@@ -129,7 +129,7 @@ fn from_bytes(s: &[u8], order: ByteOrder, pos: usize, width: usize) -> u64
 }
 
 // The number where the cursor stands.
-pub fn number_here(s: &[u8], order: ByteOrder, at: Cursor, width: usize) -> Number
+fn number_here(s: &[u8], order: ByteOrder, at: Cursor, width: usize) -> Number
     requires { ⌜ width ≤ 8 ⌝ }
     ensures { λ r. ⌜ HereIs (now (s .entry)) order at width r ⌝ }
 {

@@ -1,76 +1,41 @@
+use Rattle.values.proofs.Lists.{quick-else, quick-all, quick-count}
 use borrow.Author.Needs.{needs}
-use Rattle.values.proofs.Lists.{ElementsSofar, elements-start, elements-turn, elements-short, elements-refused, elements-end}
-use Prim.Native.Nat.{_-_}
-use Rattle.table.specs.Rows.{room}
-use Rattle.values.specs.List.{elementsFrom}
 use Rattle.values.proofs.list.elements.Statement.{statement}
 use Rattle.values.proofs.list.elements.Tie as tie
 
-abbrev Inv-loop : tie.InvT-loop
-Inv-loop s set t₀ kind count n i₀ c₀ m₀ t i c m = ElementsSofar s set kind count (elementsFrom s set kind count 0 c₀ (room t₀ n)) n t₀ t i c m
+run-requires : tie.Need-run-requires
+run-requires c κs = search needs
 
-abbrev μ-loop : tie.MeasureT-loop
-μ-loop s set t₀ kind count n i₀ c₀ m₀ t i c m = count - i
+new-requires : tie.Need-new-requires
+new-requires c κs = search needs
 
-loop-holds : tie.Need-loop-holds Inv-loop μ-loop
-loop-holds c = search (needs, elements-start, elements-turn, elements-short, elements-refused, elements-end)
+add-t14 : tie.Need-add-t14
+add-t14 c = search (needs, quick-else, quick-all, quick-count)
 
-scalar-requires : tie.Need-scalar-requires Inv-loop μ-loop
-scalar-requires c κs = search (needs, elements-start, elements-turn, elements-short, elements-refused, elements-end)
+same-length : tie.Need-same-length
+same-length c = search needs
 
-enum-known-d : tie.Need-enum-known-d Inv-loop μ-loop
-enum-known-d c = search (needs, elements-start, elements-turn, elements-short, elements-refused, elements-end)
+returns : tie.Need-returns
+returns c = search (needs, quick-all)
 
-enum-known-x : tie.Need-enum-known-x Inv-loop μ-loop
-enum-known-x c = search (needs, elements-start, elements-turn, elements-short, elements-refused, elements-end)
+each-requires : tie.Need-each-requires
+each-requires c κs = search needs
 
-same-length : tie.Need-same-length Inv-loop μ-loop
-same-length c = search (needs, elements-start, elements-turn, elements-short, elements-refused, elements-end)
+same-length-2 : tie.Need-same-length-2
+same-length-2 c = search needs
 
-returns : tie.Need-returns Inv-loop μ-loop
-returns c = search (needs, elements-start, elements-turn, elements-short, elements-refused, elements-end)
-
-enum-known-k : tie.Need-enum-known-k Inv-loop μ-loop
-enum-known-k c = search (needs, elements-start, elements-turn, elements-short, elements-refused, elements-end)
-
-same-length-2 : tie.Need-same-length-2 Inv-loop μ-loop
-same-length-2 c = search (needs, elements-start, elements-turn, elements-short, elements-refused, elements-end)
-
-returns-2 : tie.Need-returns-2 Inv-loop μ-loop
-returns-2 c = search (needs, elements-start, elements-turn, elements-short, elements-refused, elements-end)
-
-add-i : tie.Need-add-i Inv-loop μ-loop
-add-i c = search (needs, elements-start, elements-turn, elements-short, elements-refused, elements-end)
-
-loop-less : tie.Need-loop-less Inv-loop μ-loop
-loop-less c = search (needs, elements-start, elements-turn, elements-short, elements-refused, elements-end)
-
-loop-again : tie.Need-loop-again Inv-loop μ-loop
-loop-again c = search (needs, elements-start, elements-turn, elements-short, elements-refused, elements-end)
-
-same-length-3 : tie.Need-same-length-3 Inv-loop μ-loop
-same-length-3 c = search (needs, elements-start, elements-turn, elements-short, elements-refused, elements-end)
-
-returns-3 : tie.Need-returns-3 Inv-loop μ-loop
-returns-3 c = search (needs, elements-start, elements-turn, elements-short, elements-refused, elements-end)
+returns-2 : tie.Need-returns-2
+returns-2 c = search (needs, quick-else, quick-all, quick-count)
 
 pub elements-spec : {M : Type 1} → statement M
 elements-spec =
     tie.close
     (tie.spec
-    Inv-loop
-    μ-loop
-    loop-holds
-    scalar-requires
-    enum-known-d
-    enum-known-x
+    run-requires
+    new-requires
+    add-t14
     same-length
     returns
-    enum-known-k
+    each-requires
     same-length-2
-    returns-2
-    add-i
-    loop-less
-    loop-again
-    same-length-3
-    returns-3)
+    returns-2)
