@@ -1,6 +1,7 @@
 mod Asked
 pub mod ValueSteps
 pub mod MemberSteps
+pub mod PlainSteps
 pub mod StructureSteps
 pub mod UnionSteps
 pub mod NestedSteps

@@ -3,7 +3,7 @@ use Rattle.table.proofs.Outcomes.{count-from, count-past}
 use Rattle.values.proofs.Scalars.{row-fits, row-next}
 use Rattle.reader.proofs.ValueSteps.{complex-start, complex-turn, complex-short, complex-refused, complex-end, elements-unsupported, elements-full, elements-complex, elements-block, elements-list, value-none, value-unsupported, value-nested, value-list, value-scalar, list-short, list-got}
 use Rattle.reader.proofs.MemberSteps.{found-length, found-value, mmember-short, mmember-absent, mmember-read, mmember-fell, mmember-refused, optional-looked, optional-short, optional-bad, optional-absent, optional-present, fmember-optional, fmember-value}
-use Rattle.reader.proofs.StructureSteps.{fstruct-start, fstruct-turn, fstruct-ended, fstruct-short, fstruct-refused, fstruct-end, mmembers-start, mmembers-turn, mmembers-short, mmembers-refused, mmembers-end, first-read, first-lost, first-short, first-refused, second-none, second-read, second-short, second-refused}
+use Rattle.reader.proofs.StructureSteps.{fstruct-start, fstruct-turn, fstruct-ended, fstruct-short, fstruct-refused, fstruct-quick, fstruct-next, fstruct-end, mmembers-start, mmembers-turn, mmembers-short, mmembers-refused, mmembers-end, first-read, first-lost, first-short, first-refused, second-none, second-read, second-short, second-refused}
 use Rattle.reader.proofs.UnionSteps.{selected-absent, selected-unfit, selected-none, selected-looked, selected-plain, union-empty, funion-short, funion-refused, funion-read, munion-short, munion-refused, munion-read}
 use Rattle.reader.proofs.NestedSteps.{body-enum, body-first, body-second, body-munion, body-short, body-fstruct, body-funion, nested-unfit, nested-deep, nested-full, nested-read, nested-short, nested-refused}
 
@@ -23,7 +23,7 @@ pub ruleset optional-laws = (optional-looked, optional-short, optional-bad, opti
 
 pub ruleset fmember-laws = (fmember-optional, fmember-value)
 
-pub ruleset fstruct-laws = (fstruct-start, fstruct-turn, fstruct-ended, fstruct-short, fstruct-refused, fstruct-end)
+pub ruleset fstruct-laws = (fstruct-start, fstruct-turn, fstruct-ended, fstruct-short, fstruct-refused, fstruct-quick, fstruct-next, fstruct-end)
 
 pub ruleset mmembers-laws = (mmembers-start, mmembers-turn, mmembers-short, mmembers-refused, mmembers-end)
 

@@ -1,8 +1,10 @@
 -- Laws of structures: the two runs of members, and their ends. Assumes nothing.
-use Prim.Native.Nat.{ℕ, _+_, _-_, _≤_, _<_}
+use Prim.Native.Nat.{ℕ, _+_, _-_, _^_, _≤_, _<_}
 use mathlib.Core.Path.{_≡_, refl, sym, ap, _∙_}
 use mathlib.Core.Bool.{Bool, true, false}
 use mathlib.Core.List.{List, [], _++_, append-nil}
+use mir.Syntax.{w64}
+use mir.Val.{Fits}
 use lib.ListN.{length}
 use Rattle.wire.specs.declared.cursor.Cursor.{Cursor}
 use Rattle.wire.specs.declared.cursor.Shortage.{Shortage}
@@ -27,8 +29,11 @@ use Rattle.lookup.specs.Xcdr1.{seekToSentinel}
 use Rattle.lookup.specs.Dheader.{endingAt}
 use Rattle.lookup.specs.declared.dheader.Ending.{Ending}
 use Rattle.lookup.specs.declared.dheader.Ending.the-variants as ending
+use Rattle.values.specs.Quick.{Quickly}
+use Rattle.values.proofs.Quickly.{quick-done, quick-none}
 use Rattle.reader.specs.Value.{Nest}
 use Rattle.reader.specs.Member.{fmemberOf, mmemberOf}
+use Rattle.reader.proofs.PlainSteps.{plain-next}
 use Rattle.reader.specs.Structure.{absorbs, fmembersOf, mmembersOf, atSentinel, onEnding, mstructBy}
 
 module _ (types : List BookType) (s : List ℕ) (set : Settings) (nest : Nest) (b : List ℕ) (at : ℕ) where
@@ -49,8 +54,8 @@ module _ (types : List BookType) (s : List ℕ) (set : Settings) (nest : Nest) (
       unfolding fmembersOf
       more = rw (run-more b ms l)
 
-      pub fstruct-turn : (d : Cursor) (k : ℕ) (ns : Run) → r ≡ Read d k → After b ms ns → FinalSofar whole n t v ns d k
-      fstruct-turn d k ns q a =
+      member-turn : (d : Cursor) (k : ℕ) (ns : Run) → r ≡ Read d k → After b ms ns → FinalSofar whole n t v ns d k
+      member-turn d k ns q a =
           let w = was-read h q in
           let z : room u m - length (w .new) ≡ room v k = room-used u v m (length (w .new)) (w .filled .long) ∙ ap (room v) (sym (w .count)) in
           sofar-more inv
@@ -59,18 +64,45 @@ module _ (types : List BookType) (s : List ℕ) (set : Settings) (nest : Nest) (
           ∙ ap (λ (x : List Member). prepend (w .new) (fmembersOf types s set nest type x d (room v k))) (sym (a .is)))
           (w .count) (w .filled)
 
-      pub fstruct-ended : (x : Shortage) (a : Bool) → r ≡ Short x → a ≡ absorbs (typeAt b at) (memberAt b (ms .at)) → a ≡ true → Done whole n t v (Read (x .at) m)
-      fstruct-ended x a q e f = let w = was-short h q in sofar-read inv (more ∙ end-ended _ (absorbs type (memberAt b (ms .at))) (sym e ∙ f) (w .is)) (w .filled)
+      member-ended : (x : Shortage) (a : Bool) → r ≡ Short x → a ≡ absorbs (typeAt b at) (memberAt b (ms .at)) → a ≡ true → Done whole n t v (Read (x .at) m)
+      member-ended x a q e f = let w = was-short h q in sofar-read inv (more ∙ end-ended _ (absorbs type (memberAt b (ms .at))) (sym e ∙ f) (w .is)) (w .filled)
 
-      pub fstruct-short : (x : Shortage) (a : Bool) → r ≡ Short x → a ≡ absorbs (typeAt b at) (memberAt b (ms .at)) → a ≡ false → Done whole n t v (Short x)
-      fstruct-short x a q e f = let w = was-short h q in sofar-short inv (more ∙ end-short _ (absorbs type (memberAt b (ms .at))) (sym e ∙ f) (w .is)) (w .filled)
+      member-short : (x : Shortage) (a : Bool) → r ≡ Short x → a ≡ absorbs (typeAt b at) (memberAt b (ms .at)) → a ≡ false → Done whole n t v (Short x)
+      member-short x a q e f = let w = was-short h q in sofar-short inv (more ∙ end-short _ (absorbs type (memberAt b (ms .at))) (sym e ∙ f) (w .is)) (w .filled)
 
-      pub fstruct-refused : (k : Refusal) → r ≡ Refused k → Done whole n t v (Refused k)
-      fstruct-refused k q = let w = was-refused h q in sofar-refused inv (more ∙ end-refused _ (absorbs type (memberAt b (ms .at))) (w .is)) (w .filled)
+      member-refused : (k : Refusal) → r ≡ Refused k → Done whole n t v (Refused k)
+      member-refused k q = let w = was-refused h q in sofar-refused inv (more ∙ end-refused _ (absorbs type (memberAt b (ms .at))) (w .is)) (w .filled)
+
+    -- the quick way took the member, or left it alone
+    module _ (v : List ℕ) (x : ℕ) (q : (f : Nest) → Quickly (fmemberOf types s set f (memberAt b (ms .at)) c (room u m)) 1 m (c .origin) u v x) where
+      pub fstruct-quick : 0 < ms .left → 0 < x → (ns : Run) → After b ms ns → FinalSofar whole n t v ns (cursorAt x (c .origin)) (m + 1)
+      fstruct-quick l h ns a = member-turn l v (Read (cursorAt x (c .origin)) (m + 1)) (quick-done 1 x h (q nest)) (cursorAt x (c .origin)) (m + 1) ns refl a
+
+      pub fstruct-next : 0 < x → length t < 2 ^ 64 → Fits w64 (m + 1)
+      fstruct-next h k = plain-next types s set (memberAt b (ms .at)) c u m v x q h (rw (← (inv .filled .long)) at k)
 
     pub fstruct-end : ms .left ≤ 0 → Done whole n t u (Read c m)
     unfolding fmembersOf
     fstruct-end l = sofar-read inv (rw (run-none b ms l)) (filled-none u m)
+
+  -- where the quick way left the member alone, it is read as any other
+  module _ (whole : Outcome) (n : ℕ) (t u : List ℕ) (ms : Run) (c : Cursor) (m : ℕ) (inv : FinalSofar whole n t u ms c m)
+      (v : List ℕ) (x : ℕ) (q : (f : Nest) → Quickly (fmemberOf types s set f (memberAt b (ms .at)) c (room u m)) 1 m (c .origin) u v x) (none : x ≤ 0)
+      (l : 0 < ms .left) (w : List ℕ) (r : Out) (h : Done (fmemberOf types s set nest (memberAt b (ms .at)) c (room v m)) m v w r) where
+    still : FinalSofar whole n t v ms c m
+    still = rw (quick-none _ 1 m (c .origin) u v x none (q nest)) inv
+
+    pub fstruct-turn : (d : Cursor) (k : ℕ) (ns : Run) → r ≡ Read d k → After b ms ns → FinalSofar whole n t w ns d k
+    fstruct-turn = member-turn whole n t v ms c m still l w r h
+
+    pub fstruct-ended : (y : Shortage) (a : Bool) → r ≡ Short y → a ≡ absorbs (typeAt b at) (memberAt b (ms .at)) → a ≡ true → Done whole n t w (Read (y .at) m)
+    fstruct-ended = member-ended whole n t v ms c m still l w r h
+
+    pub fstruct-short : (y : Shortage) (a : Bool) → r ≡ Short y → a ≡ absorbs (typeAt b at) (memberAt b (ms .at)) → a ≡ false → Done whole n t w (Short y)
+    fstruct-short = member-short whole n t v ms c m still l w r h
+
+    pub fstruct-refused : (k : Refusal) → r ≡ Refused k → Done whole n t w (Refused k)
+    fstruct-refused = member-refused whole n t v ms c m still l w r h
 
   -- members by their lookups, with those that are left
   abbrev pub LookedSofar : Outcome → ℕ → List ℕ → List ℕ → Run → Cursor → ℕ → Type 0

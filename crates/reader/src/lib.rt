@@ -8,6 +8,7 @@ ghost use Rattle.wire.specs.declared.settings.Version.the-variants.{Xcdr1, Xcdr
 ghost use Rattle.reader.specs.Cycle.{nest, bodyIn, fstructIn, membersIn, mstructIn};
 
 pub mod member;
+pub mod plain;
 pub mod types;
 pub mod union;
 pub mod value;
@@ -126,13 +127,22 @@ pub fn fstruct(
     ensures { λ r. ⌜ Done (fstructIn (now (book .entry)) (now (index .entry)) (now (s .entry)) set depth (typeAt (now (book .entry)) at) c (room (now (t .entry)) n)) n (now (t .entry)) (now (t .exit)) r ⌝ }
 {
     let mut ms = members(book, at);
-    let mut d = c;
+    let mut pos = c.pos;
+    let mut origin = c.origin;
     let mut m = n;
     while 0 < ms.left {
         let p = ms.at;
-        match member::fmember(book, index, s, set, t, p, d, m, depth) {
+        let past = plain::take(book, index, s, set, t, p, Cursor { pos, origin }, m);
+        if 0 < past {
+            pos = past;
+            m += 1;
+            ms = after(book, ms);
+            continue;
+        }
+        match member::fmember(book, index, s, set, t, p, Cursor { pos, origin }, m, depth) {
             Out::Read(e, k) => {
-                d = e;
+                pos = e.pos;
+                origin = e.origin;
                 m = k;
             }
             Out::Short(x) => {
@@ -148,7 +158,7 @@ pub fn fstruct(
         }
         ms = after(book, ms);
     }
-    Out::Read(d, m)
+    Out::Read(Cursor { pos, origin }, m)
 }
 
 // The members of a Mutable structure, each by its lookup.

@@ -19,6 +19,13 @@ use wire::number::Number;
 use wire::settings::ByteOrder;
 use wire::settings::Settings;
 
+// The numbers of up to 8 bytes; a boolean is judged, and CHAR16 is unsupported.
+pub fn is_number(kind: u8) -> bool
+    ensures { λ r. ⌜ r ≡ isNumber kind ⌝ }
+{
+    (2 <= kind) & (kind <= 14) & !(kind == 11)
+}
+
 // A number and its row. With the width and the row's kind known, the machine's code for it is short.
 fn number(
     s: &[u8],
@@ -80,12 +87,6 @@ pub fn take(
         14 => number(s, set, t, kind, 14, 1, id, at, n),
         _ => 0,
     }
-}
-
-fn is_number(kind: u8) -> bool
-    ensures { λ r. ⌜ r ≡ isNumber kind ⌝ }
-{
-    (2 <= kind) & (kind <= 14) & !(kind == 11)
 }
 
 // The rows of a list's numbers. Nothing is asked in the loop, so the machine may take several at once.

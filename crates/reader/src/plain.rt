@@ -1,0 +1,38 @@
+// The quick way for a member: most are numbers, there whole, of a Final or Appendable structure.
+ghost use Rattle.book.specs.Places.{memberAt, typesBy};
+ghost use Rattle.table.specs.Rows.{room};
+ghost use Rattle.values.specs.Quick.{Quickly};
+ghost use Rattle.reader.specs.Value.{Nest};
+ghost use Rattle.reader.specs.Member.{fmemberOf};
+use crate::types::kind_at;
+use book::index::place;
+use book::member::id;
+use book::member::is_optional;
+use book::member::type_index;
+use values::quick::is_number;
+use wire::cursor::Cursor;
+use wire::settings::Settings;
+
+// Takes the member at p where it is a number, and tells the position after it; or 0, and nothing is done. It opens nothing, so how values
+// are opened makes no difference.
+pub fn take(
+    book: &[u8],
+    index: &[u32],
+    s: &[u8],
+    set: Settings,
+    t: &mut [u64],
+    p: usize,
+    c: Cursor,
+    n: usize,
+) -> usize
+    ensures { λ r. ⌜ ((nest : Nest) → Quickly (fmemberOf (typesBy (now (book .entry)) (now (index .entry))) (now (s .entry)) set nest (memberAt (now (book .entry)) p) c (room (now (t .entry)) n)) 1 n (c .origin) (now (t .entry)) (now (t .exit)) r) ⌝ }
+{
+    if is_optional(book, p) {
+        return 0;
+    }
+    let kind = kind_at(book, place(book, index, type_index(book, p)));
+    if !is_number(kind) {
+        return 0;
+    }
+    values::quick::take(s, set, t, kind, id(book, p) as u64, c, n)
+}
