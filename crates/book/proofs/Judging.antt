@@ -11,8 +11,8 @@ use borrow.Author.Tests.{not-true, not-false, lt-leb, le-leb, eq-eqb, ne-eqb, le
 use Rattle.ground.specs.Choice.{both}
 use Rattle.book.specs.declared.member.Run.{Run}
 use Rattle.book.specs.Types.{Member, BookType, noIndex, pair, memberOf, pastMember, membersOf, pastType, typeCount, typesOf}
-use Rattle.book.specs.Places.{from, memberAt, typeAt, Skipped, listed, later, earlier, Started, After, typesBy, indexCount, indexed}
-use Rattle.book.specs.Rules.{filled, recordLengthOk, elementOk, ownOk, every, linkOk, memberOk, membersOk, typeOk, recordOk, recordsOk, sizeOk, versionOk, typeCountOk, headOk, bookOk}
+use Rattle.book.specs.Places.{from, memberAt, typeAt, Skipped, listed, later, earlier, Below, Started, After, typesBy, indexCount, indexed}
+use Rattle.book.specs.Rules.{filled, recordLengthOk, elementOk, ownOk, every, otherId, linkOk, memberOk, membersOk, typeOk, recordOk, recordsOk, sizeOk, versionOk, typeCountOk, headOk, bookOk}
 use Rattle.book.proofs.Kept.{both-second, kept}
 use Rattle.book.proofs.Indexing.{index-types, take-indexed, length-places}
 use Rattle.book.proofs.Places.{run, run-more, run-none, length-members}
@@ -96,6 +96,19 @@ pub length-earlier : (b : List ℕ) (at n : ℕ) → length (earlier b at n) ≡
 unfolding earlier
 length-earlier b at n = length-members n (drop 14 (from b at))
 
+-- an id that is not below top is none of those that are
+pub id-above : (top id : ℕ) (ms : List Member) → Below top ms → top ≤ id → true ≡ every (otherId id) ms
+unfolding Below every otherId
+id-above top id [] u h = refl
+id-above top id (m ∷ ms) u h =
+    let n : m .id ≡ id → ⊥ = λ e. omega (arith, u .0) in
+    rw (ne-eqb (m .id) id n) (id-above top id ms (u .1) h)
+
+below-more : (top t : ℕ) (ms : List Member) (m : Member) → Below top ms → top ≤ t → m .id < t → Below t (ms ++ m ∷ [])
+unfolding Below
+below-more top t [] m u h l = (l, tt)
+below-more top t (x ∷ xs) m u h l = (omega (arith, u .0), below-more top t xs m (u .1) h l)
+
 -- the bytes after n members
 unfoldable pub pastMembers : ℕ → List ℕ → List ℕ
 pastMembers zero s = s
@@ -119,17 +132,19 @@ allOk b types at k = membersOk types k (typeAt b at) [] (typeAt b at .members)
 abbrev thisOk : List ℕ → List BookType → ℕ → ℕ → ℕ → ℕ → Bool
 thisOk b types at k n p = memberOk types k (typeAt b at) (earlier b at n) (memberAt b p)
 
--- the walk over those members: `done` of them keep the rules, and the run has the others
-pub record Walking (b : List ℕ) (types : List BookType) (at k done : ℕ) (ms : Run) : Type 0 where
+-- the walk over those members: `done` of them keep the rules, their ids are below top, and the run has the others
+pub record Walking (b : List ℕ) (types : List BookType) (at k done top : ℕ) (ms : Run) : Type 0 where
   pub stands : from b (ms .at) ≡ pastMembers done (drop 14 (from b at))
   pub still : membersOk types k (typeAt b at) (earlier b at done) (listed b ms) ≡ allOk b types at k
   pub few : done + ms .left < 65536
+  pub ids : Below top (earlier b at done)
 
-pub walk-start : (b : List ℕ) (types : List BookType) (at k : ℕ) (ms : Run) → Started b at ms → Walking b types at k 0 ms
-unfolding pastMembers earlier membersOf
-walk-start b types at k ms s = record { stands = s .bytes; still = rw (s .is); few = omega (arith, s .small) }
+pub walk-start : (b : List ℕ) (types : List BookType) (at k : ℕ) (ms : Run) → Started b at ms → Walking b types at k 0 0 ms
+unfolding pastMembers earlier membersOf Below
+walk-start b types at k ms s =
+    record { stands = s .bytes; still = rw (s .is); few = omega (arith, s .small); ids = tt }
 
-module _ (b : List ℕ) (types : List BookType) (at k done : ℕ) (ms : Run) (x : Walking b types at k done ms) where
+module _ (b : List ℕ) (types : List BookType) (at k done top : ℕ) (ms : Run) (x : Walking b types at k done top ms) where
   -- one of the run is left: it, and those after it
   here : (t z : Bool) → 0 < ms .left → t ≡ thisOk b types at k done (ms .at) → t ≡ z
       → both z (membersOk types k (typeAt b at) (earlier b at done ++ memberAt b (ms .at) ∷ []) (later b ms)) ≡ allOk b types at k
@@ -145,13 +160,15 @@ module _ (b : List ℕ) (types : List BookType) (at k done : ℕ) (ms : Run) (x 
   pub walk-bad : (t : Bool) → 0 < ms .left → t ≡ thisOk b types at k done (ms .at) → not t ≡ true → false ≡ allOk b types at k
   walk-bad t h e z = here t false h e (not-true t z)
 
-  pub walk-turn : (t : Bool) (r : Run) → 0 < ms .left → t ≡ thisOk b types at k done (ms .at) → not t ≡ false → After b ms r → Walking b types at k (done + 1) r
+  pub walk-turn : (t : Bool) (r : Run) (id u : ℕ) → 0 < ms .left → t ≡ thisOk b types at k done (ms .at) → not t ≡ false → id ≡ memberAt b (ms .at) .id → (top ≤ u) × (id < u)
+      → After b ms r → Walking b types at k (done + 1) u r
   unfolding pastMembers
-  walk-turn t r h e z a =
+  walk-turn t r id u h e z i l a =
       record {
         stands = rw (add-one done, ← x .stands) (a .bytes);
         still = rw (add-one done, next, a .is) (here t true h e (not-false t z));
         few = omega (arith, x .few, a .left);
+        ids = rw (add-one done, next) (below-more top u (earlier b at done) (memberAt b (ms .at)) (x .ids) (l .0) (rw i at (l .1)));
       }
 
   pub walk-end : ms .left ≤ 0 → true ≡ allOk b types at k

@@ -2,8 +2,9 @@
 ghost use mathlib.Core.Path.{_≡_};
 ghost use mathlib.Core.Bool.{_&&_};
 ghost use mathlib.Core.List.{[]};
+ghost use Prim.Native.Nat.{_<_, _≤_};
 ghost use lib.ListN.{length};
-ghost use Rattle.book.specs.Places.{from, memberAt, typeAt, listed, earlier, typesBy};
+ghost use Rattle.book.specs.Places.{from, memberAt, typeAt, listed, earlier, Below, typesBy};
 ghost use Rattle.book.specs.Rules.{headOk, filled, recordLengthOk, codesOk, boundsOk, elementOk, countOk, ownOk};
 ghost use Rattle.book.specs.Rules.{every, otherId, idOk, firstIdOk, linkOk, firstKindOk, flagsOk, firstDefaultOk, labelCountOk, firstLabelOk};
 ghost use Rattle.book.specs.Rules.{memberOk, membersOk, recordOk, recordsOk, bookOk};
@@ -137,17 +138,29 @@ fn id_is_new(b: &[u8], ms: Run, id: u32) -> bool
     true
 }
 
-// A member's id: another than those of the `done` members before it, and 0 for the first of a union.
-fn id_ok(b: &[u8], at: usize, done: usize, p: usize, first: bool) -> bool
-    ensures { λ r. ⌜ r ≡ (idOk (earlier (now (b .entry)) at done) (memberAt (now (b .entry)) p) && firstIdOk first (memberAt (now (b .entry)) p)) ⌝ }
+// Whether none of the `done` members before has this id. Theirs are below `top`: an id that is not need not be compared with each.
+fn id_differs(b: &[u8], at: usize, done: usize, top: u64, id: u32) -> bool
+    requires { ⌜ Below top (earlier (now b) at done) ⌝ }
+    ensures { λ r. ⌜ r ≡ every (otherId id) (earlier (now (b .entry)) at done) ⌝ }
 {
-    let id = member::id(b, p);
+    if top <= id as u64 {
+        return true;
+    }
     let start = skip(b, at, 14);
     let before = Run {
         at: start,
         left: done,
     };
-    id_is_new(b, before, id) & (!first | (id == 0))
+    id_is_new(b, before, id)
+}
+
+// A member's id: another than those of the `done` members before it, and 0 for the first of a union.
+fn id_ok(b: &[u8], at: usize, done: usize, top: u64, p: usize, first: bool) -> bool
+    requires { ⌜ Below top (earlier (now b) at done) ⌝ }
+    ensures { λ r. ⌜ r ≡ (idOk (earlier (now (b .entry)) at done) (memberAt (now (b .entry)) p) && firstIdOk first (memberAt (now (b .entry)) p)) ⌝ }
+{
+    let id = member::id(b, p);
+    id_differs(b, at, done, top, id) & (!first | (id == 0))
 }
 
 fn link_ok(b: &[u8], at: usize, k: usize, p: usize) -> bool
@@ -163,8 +176,11 @@ fn link_ok(b: &[u8], at: usize, k: usize, p: usize) -> bool
 fn first_kind_ok(b: &[u8], index: &[u32], p: usize, first: bool) -> bool
     ensures { λ r. ⌜ r ≡ firstKindOk (typesBy (now (b .entry)) (now (index .entry))) first (memberAt (now (b .entry)) p) ⌝ }
 {
+    if !first {
+        return true;
+    }
     let kind = types::kind(b, place(b, index, member::type_index(b, p)));
-    !first | (ground::in_range(kind as u64, 1, 15) | (kind == 19) | (kind == 21))
+    ground::in_range(kind as u64, 1, 15) | (kind == 19) | (kind == 21)
 }
 
 fn flags_ok(b: &[u8], p: usize, first: bool) -> bool
@@ -180,28 +196,40 @@ fn labels_ok(b: &[u8], p: usize, first: bool) -> bool
     (n <= 16) & (!first | (n == 0))
 }
 
-// The member at p, of the type at `at`, record k, with `done` members before it.
-fn member_ok(b: &[u8], index: &[u32], at: usize, k: usize, done: usize, p: usize) -> bool
+// The member at p, of the type at `at`, record k, with `done` members before it, whose ids are below `top`.
+fn member_ok(b: &[u8], index: &[u32], at: usize, k: usize, done: usize, top: u64, p: usize) -> bool
+    requires { ⌜ Below top (earlier (now b) at done) ⌝ }
     ensures { λ r. ⌜ r ≡ memberOk (typesBy (now (b .entry)) (now (index .entry))) k (typeAt (now (b .entry)) at) (earlier (now (b .entry)) at done) (memberAt (now (b .entry)) p) ⌝ }
 {
     let first = (types::kind(b, at) == UNION) & (done == 0);
-    id_ok(b, at, done, p, first)
+    id_ok(b, at, done, top, p, first)
         & (link_ok(b, at, k, p) & first_kind_ok(b, index, p, first))
         & flags_ok(b, p, first)
         & (member::construct(b, p) <= 2)
         & labels_ok(b, p, first)
 }
 
+// A number above the id, and no less than `top`.
+fn above(top: u64, id: u32) -> u64
+    ensures { λ r. ⌜ (top ≤ r) × (id < r) ⌝ }
+{
+    let next = id as u64 + 1;
+    if next < top { top } else { next }
+}
+
+// Ids mostly rise from member to member, and are then compared with the greatest before them alone.
 fn members_ok(b: &[u8], index: &[u32], at: usize, k: usize) -> bool
     ensures { λ r. ⌜ r ≡ membersOk (typesBy (now (b .entry)) (now (index .entry))) k (typeAt (now (b .entry)) at) [] (typeAt (now (b .entry)) at .members) ⌝ }
 {
     let mut rest = member::members(b, at);
     let mut done = 0;
+    let mut top = 0;
     while 0 < rest.left {
         let p = rest.at;
-        if !member_ok(b, index, at, k, done, p) {
+        if !member_ok(b, index, at, k, done, top, p) {
             return false;
         }
+        top = above(top, member::id(b, p));
         rest = member::after(b, rest);
         done += 1;
     }

@@ -1,7 +1,11 @@
-use Rattle.book.specs.Rules.{firstKindOk}
 use borrow.Author.Needs.{needs}
+use Rattle.book.specs.Rules.{firstKindOk}
 use Rattle.book.proofs.judge.first_kind_ok.Statement.{statement}
 use Rattle.book.proofs.judge.first_kind_ok.Tie as tie
+
+returns : tie.Need-returns
+unfolding firstKindOk
+returns c = search needs
 
 type-index-requires : tie.Need-type-index-requires
 type-index-requires c κs = search needs
@@ -15,10 +19,13 @@ kind-requires c κs = search needs
 in-range-requires : tie.Need-in-range-requires
 in-range-requires c κs = search needs
 
-returns : tie.Need-returns
+returns-2 : tie.Need-returns-2
 unfolding firstKindOk
-returns c = rw (c .in-range .ensures, c .before .kind .ensures .0, c .before .before .place .ensures .is, c .before .before .before .type-index .ensures .0)
+returns-2 c =
+    let link = c .before .before .before in
+    rw (link .before .if1 .left, c .in-range .ensures, c .before .kind .ensures .0, c .before .before .place .ensures .is, link .type-index .ensures .0)
 
 pub first-kind-ok-spec : {M : Type 1} → statement M
 first-kind-ok-spec =
-    tie.close (tie.spec type-index-requires place-requires kind-requires in-range-requires returns)
+    tie.close
+    (tie.spec returns type-index-requires place-requires kind-requires in-range-requires returns-2)

@@ -6,10 +6,10 @@ use Rattle.book.proofs.judge.members_ok.Statement.{statement}
 use Rattle.book.proofs.judge.members_ok.Tie as tie
 
 abbrev Inv-loop : tie.InvT-loop
-Inv-loop b index at k rest₀ done₀ rest done = Walking b (typesBy b index) at k done rest
+Inv-loop b index at k rest₀ done₀ top₀ rest done top = Walking b (typesBy b index) at k done top rest
 
 abbrev μ-loop : tie.MeasureT-loop
-μ-loop b index at k rest₀ done₀ rest done = rest .left
+μ-loop b index at k rest₀ done₀ top₀ rest done top = rest .left
 
 members-requires : tie.Need-members-requires Inv-loop μ-loop
 members-requires c κs = search (needs, walk-laws)
@@ -22,6 +22,12 @@ member-ok-requires c κs = search (needs, walk-laws)
 
 returns : tie.Need-returns Inv-loop μ-loop
 returns c = search (needs, walk-laws)
+
+id-requires : tie.Need-id-requires Inv-loop μ-loop
+id-requires c κs = search (needs, walk-laws)
+
+above-requires : tie.Need-above-requires Inv-loop μ-loop
+above-requires c κs = search (needs, walk-laws)
 
 after-requires : tie.Need-after-requires Inv-loop μ-loop
 after-requires c κs = search (needs, walk-laws)
@@ -48,6 +54,8 @@ members-ok-spec =
     loop-holds
     member-ok-requires
     returns
+    id-requires
+    above-requires
     after-requires
     add-done
     loop-less
