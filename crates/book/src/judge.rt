@@ -1,8 +1,9 @@
 // Whether a book is right: document 01's rules of a book, in reading order. Counts are tested before the loops that they bound.
 ghost use mathlib.Core.Path.{_≡_};
-ghost use mathlib.Core.Bool.{_&&_};
+ghost use mathlib.Core.Bool.{true, not, _&&_, _||_};
 ghost use mathlib.Core.List.{[]};
-ghost use Prim.Native.Nat.{_<_, _≤_};
+ghost use Prim.Native.Nat.{ℕ, _<_, _≤_};
+ghost use lib.Dec.{eqb};
 ghost use lib.ListN.{length};
 ghost use Rattle.book.specs.Places.{from, memberAt, typeAt, listed, earlier, Below, typesBy};
 ghost use Rattle.book.specs.Rules.{headOk, filled, recordLengthOk, codesOk, boundsOk, elementOk, countOk, ownOk};
@@ -110,10 +111,38 @@ fn count_ok(b: &[u8], at: usize) -> bool
         & (!((kind == ENUM) | (kind == UNION)) | (1 <= n))
 }
 
+// Whether the type has nothing but a kind, of those that ask for nothing else, and an extensibility: as numbers and unbounded strings have.
+fn is_plain(b: &[u8], at: usize) -> bool
+    ensures { λ r. ⌜ ((k : ℕ) → r ≡ true → true ≡ ownOk k (typeAt (now (b .entry)) at)) ⌝ }
+{
+    if 20 < types::kind(b, at) {
+        return false;
+    }
+    if 2 < types::extensibility(b, at) {
+        return false;
+    }
+    if types::base(b, at) != 0 {
+        return false;
+    }
+    if types::bound_flag(b, at) != 0 {
+        return false;
+    }
+    if types::bound(b, at) != 0 {
+        return false;
+    }
+    if types::element(b, at) != NONE {
+        return false;
+    }
+    member::member_count(b, at) == 0
+}
+
 // The own bytes of record k.
 fn own_ok(b: &[u8], at: usize, k: usize) -> bool
     ensures { λ r. ⌜ r ≡ ownOk k (typeAt (now (b .entry)) at) ⌝ }
 {
+    if is_plain(b, at) {
+        return true;
+    }
     codes_ok(b, at) & bound_ok(b, at) & element_ok(b, at, k) & count_ok(b, at)
 }
 
@@ -155,11 +184,10 @@ fn id_differs(b: &[u8], at: usize, done: usize, top: u64, id: u32) -> bool
 }
 
 // A member's id: another than those of the `done` members before it, and 0 for the first of a union.
-fn id_ok(b: &[u8], at: usize, done: usize, top: u64, p: usize, first: bool) -> bool
+fn id_ok(b: &[u8], at: usize, done: usize, top: u64, id: u32, first: bool) -> bool
     requires { ⌜ Below top (earlier (now b) at done) ⌝ }
-    ensures { λ r. ⌜ r ≡ (idOk (earlier (now (b .entry)) at done) (memberAt (now (b .entry)) p) && firstIdOk first (memberAt (now (b .entry)) p)) ⌝ }
+    ensures { λ r. ⌜ r ≡ (every (otherId id) (earlier (now (b .entry)) at done) && (not first || eqb id 0)) ⌝ }
 {
-    let id = member::id(b, p);
     id_differs(b, at, done, top, id) & (!first | (id == 0))
 }
 
@@ -196,13 +224,22 @@ fn labels_ok(b: &[u8], p: usize, first: bool) -> bool
     (n <= 16) & (!first | (n == 0))
 }
 
-// The member at p, of the type at `at`, record k, with `done` members before it, whose ids are below `top`.
-fn member_ok(b: &[u8], index: &[u32], at: usize, k: usize, done: usize, top: u64, p: usize) -> bool
-    requires { ⌜ Below top (earlier (now b) at done) ⌝ }
+// The member at p, of the type at `at`, record k, with `done` members before it, whose ids are below `top`; `id` is its own.
+fn member_ok(
+    b: &[u8],
+    index: &[u32],
+    at: usize,
+    k: usize,
+    done: usize,
+    top: u64,
+    p: usize,
+    id: u32,
+) -> bool
+    requires { ⌜ Below top (earlier (now b) at done) × (id ≡ memberAt (now b) p .id) ⌝ }
     ensures { λ r. ⌜ r ≡ memberOk (typesBy (now (b .entry)) (now (index .entry))) k (typeAt (now (b .entry)) at) (earlier (now (b .entry)) at done) (memberAt (now (b .entry)) p) ⌝ }
 {
     let first = (types::kind(b, at) == UNION) & (done == 0);
-    id_ok(b, at, done, top, p, first)
+    id_ok(b, at, done, top, id, first)
         & (link_ok(b, at, k, p) & first_kind_ok(b, index, p, first))
         & flags_ok(b, p, first)
         & (member::construct(b, p) <= 2)
@@ -217,8 +254,10 @@ fn above(top: u64, id: u32) -> u64
     if next < top { top } else { next }
 }
 
-// Ids mostly rise from member to member, and are then compared with the greatest before them alone.
+// Ids mostly rise from member to member, and are then compared with the greatest before them alone. That a member's 9 bytes are there is
+// known, and asked once for the compiler, which then leaves it out for each field.
 fn members_ok(b: &[u8], index: &[u32], at: usize, k: usize) -> bool
+    requires { ⌜ recordLengthOk (from (now b) at) ≡ true ⌝ }
     ensures { λ r. ⌜ r ≡ membersOk (typesBy (now (b .entry)) (now (index .entry))) k (typeAt (now (b .entry)) at) [] (typeAt (now (b .entry)) at .members) ⌝ }
 {
     let mut rest = member::members(b, at);
@@ -226,10 +265,14 @@ fn members_ok(b: &[u8], index: &[u32], at: usize, k: usize) -> bool
     let mut top = 0;
     while 0 < rest.left {
         let p = rest.at;
-        if !member_ok(b, index, at, k, done, top, p) {
+        if left_at(b, p) < 9 {
             return false;
         }
-        top = above(top, member::id(b, p));
+        let id = member::id(b, p);
+        if !member_ok(b, index, at, k, done, top, p, id) {
+            return false;
+        }
+        top = above(top, id);
         rest = member::after(b, rest);
         done += 1;
     }
