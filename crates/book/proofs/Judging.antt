@@ -1,7 +1,7 @@
 -- Laws of the judge's tests and walks. Assumes nothing.
 use Prim.Native.Nat.{ℕ, zero, suc, _+_, _-_, _*_, _<_, _≤_, zero-le}
 use mathlib.Core.Path.{_≡_, refl, sym, ap, _∙_}
-use mathlib.Core.Bool.{Bool, true, false, not, _||_}
+use mathlib.Core.Bool.{Bool, true, false, not, _&&_, _||_, and-true, and-false}
 use mathlib.Core.List.{List, [], _∷_, _++_}
 use native.Mathlib.Omega.{arith}
 use native.Mathlib.Numerals.{add-one}
@@ -12,7 +12,7 @@ use Rattle.ground.specs.Choice.{both}
 use Rattle.book.specs.declared.member.Run.{Run}
 use Rattle.book.specs.Types.{Member, BookType, bounded, noIndex, byte, pair, memberOf, pastMember, membersOf, typeOf, pastType, typeCount, typesOf}
 use Rattle.book.specs.Places.{from, memberAt, typeAt, Skipped, listed, later, earlier, Below, Started, After, typesBy, indexCount, indexed}
-use Rattle.book.specs.Rules.{memberSize, filled, recordLengthOk, codesOk, kindOk, extensibilityOk, baseOk, boundFlagOk, boundsOk, arrayBoundOk, boundOk, elementOk, countOk, memberCountOk, memberKindOk, someMemberOk, ownOk, every, otherId, linkOk, memberOk, membersOk, typeOk, recordOk, recordsOk, sizeOk, versionOk, typeCountOk, headOk, bookOk}
+use Rattle.book.specs.Rules.{memberSize, filled, recordLengthOk, codesOk, kindOk, extensibilityOk, baseOk, boundFlagOk, boundsOk, arrayBoundOk, boundOk, elementOk, countOk, memberCountOk, memberKindOk, someMemberOk, ownOk, every, otherId, idOk, linkOk, flagsOk, constructOk, labelCountOk, firstOfUnion, firstIdOk, firstKindOk, firstDefaultOk, firstLabelOk, memberOk, membersOk, typeOk, recordOk, recordsOk, sizeOk, versionOk, typeCountOk, headOk, bookOk}
 use Rattle.book.proofs.Kept.{apart, both-first, both-second, kept}
 use Rattle.book.proofs.Indexing.{index-types, take-indexed, length-places}
 use Rattle.book.proofs.Places.{label-count-is, run, run-more, run-none, length-members}
@@ -132,9 +132,36 @@ pub before-is : (b : List ℕ) (at p n : ℕ) → Skipped b at 14 p → listed b
 unfolding listed earlier
 before-is b at p n s = rw (s .is)
 
-pub length-earlier : (b : List ℕ) (at n : ℕ) → length (earlier b at n) ≡ n
+length-earlier : (b : List ℕ) (at n : ℕ) → length (earlier b at n) ≡ n
 unfolding earlier
 length-earlier b at n = length-members n (drop 14 (from b at))
+
+-- the rules w to z of the first of a union, asked after the rules a to e of every member or each beside its own
+beside : (a b c d e w x y z : Bool) → (a && b && c && d && e && (w && x && y && z)) ≡ ((a && w) && (b && x) && (c && y) && d && (e && z))
+beside a b c d e false x y z = simp and-false
+beside a b c d e true false y z = simp (and-true, and-false)
+beside a b c d e true true false z = simp (and-true, and-false)
+beside a b c d e true true true false = simp (and-true, and-false)
+beside a b c d e true true true true = simp and-true
+
+-- a member's rules
+module _ (types : List BookType) (k : ℕ) (t : BookType) (before : List Member) (m : Member) where
+  abbrev always : Bool
+  always = idOk before m && linkOk k t m && flagsOk m && constructOk m && labelCountOk m
+
+  pub member-first : firstOfUnion t before ≡ true
+      → (always && (firstIdOk true m && firstKindOk types true m && firstDefaultOk true m && firstLabelOk true m)) ≡ memberOk types k t before m
+  unfolding memberOk
+  member-first e = rw e
+      (beside (idOk before m) (linkOk k t m) (flagsOk m) (constructOk m) (labelCountOk m) (firstIdOk true m) (firstKindOk types true m) (firstDefaultOk true m) (firstLabelOk true m))
+
+  pub member-other : firstOfUnion t before ≡ false → always ≡ memberOk types k t before m
+  unfolding memberOk firstIdOk firstKindOk firstDefaultOk firstLabelOk
+  member-other e = rw e (simp and-true)
+
+pub union-first : (b : List ℕ) (at n kind : ℕ) (z : Bool) → kind ≡ typeAt b at .kind → (eqb kind 23 && eqb n 0) ≡ z → firstOfUnion (typeAt b at) (earlier b at n) ≡ z
+unfolding firstOfUnion
+union-first b at n kind z e h = rw (← e, length-earlier b at n) h
 
 -- an id that is not below top is none of those that are
 pub id-above : (top id : ℕ) (ms : List Member) → Below top ms → top ≤ id → true ≡ every (otherId id) ms

@@ -1,13 +1,12 @@
 // Whether a book is right: document 01's rules of a book, in reading order. Counts are tested before the loops that they bound.
 ghost use mathlib.Core.Path.{_≡_};
-ghost use mathlib.Core.Bool.{true, not, _&&_, _||_};
+ghost use mathlib.Core.Bool.{true, _&&_};
 ghost use mathlib.Core.List.{[]};
 ghost use Prim.Native.Nat.{ℕ, _<_, _≤_};
-ghost use lib.Dec.{eqb};
 ghost use lib.ListN.{length};
 ghost use Rattle.book.specs.Places.{from, memberAt, typeAt, listed, earlier, Below, typesBy};
 ghost use Rattle.book.specs.Rules.{headOk, filled, recordLengthOk, codesOk, boundsOk, elementOk, countOk, ownOk};
-ghost use Rattle.book.specs.Rules.{every, otherId, idOk, firstIdOk, linkOk, firstKindOk, flagsOk, firstDefaultOk, labelCountOk, firstLabelOk};
+ghost use Rattle.book.specs.Rules.{every, otherId, linkOk, firstIdOk, firstKindOk, firstDefaultOk, firstLabelOk};
 ghost use Rattle.book.specs.Rules.{memberOk, membersOk, recordOk, recordsOk, bookOk};
 use crate::bytes::byte_at;
 use crate::bytes::left_at;
@@ -111,7 +110,7 @@ fn count_ok(b: &[u8], at: usize) -> bool
         & (!((kind == ENUM) | (kind == UNION)) | (1 <= n))
 }
 
-// Whether the type has nothing but a kind, of those that ask for nothing else, and an extensibility: as numbers and unbounded strings have.
+// Whether the type is an extensibility and a kind that asks for nothing else. Most are, and keep every rule.
 fn is_plain(b: &[u8], at: usize) -> bool
     ensures { λ r. ⌜ ((k : ℕ) → r ≡ true → true ≡ ownOk k (typeAt (now (b .entry)) at)) ⌝ }
 {
@@ -183,14 +182,6 @@ fn id_differs(b: &[u8], at: usize, done: usize, top: u64, id: u32) -> bool
     id_is_new(b, before, id)
 }
 
-// A member's id: another than those of the `done` members before it, and 0 for the first of a union.
-fn id_ok(b: &[u8], at: usize, done: usize, top: u64, id: u32, first: bool) -> bool
-    requires { ⌜ Below top (earlier (now b) at done) ⌝ }
-    ensures { λ r. ⌜ r ≡ (every (otherId id) (earlier (now (b .entry)) at done) && (not first || eqb id 0)) ⌝ }
-{
-    id_differs(b, at, done, top, id) & (!first | (id == 0))
-}
-
 fn link_ok(b: &[u8], at: usize, k: usize, p: usize) -> bool
     ensures { λ r. ⌜ r ≡ linkOk k (typeAt (now (b .entry)) at) (memberAt (now (b .entry)) p) ⌝ }
 {
@@ -201,27 +192,16 @@ fn link_ok(b: &[u8], at: usize, k: usize, p: usize) -> bool
     link < k
 }
 
-fn first_kind_ok(b: &[u8], index: &[u32], p: usize, first: bool) -> bool
-    ensures { λ r. ⌜ r ≡ firstKindOk (typesBy (now (b .entry)) (now (index .entry))) first (memberAt (now (b .entry)) p) ⌝ }
+// What is asked of the first member of a union alone.
+fn first_ok(b: &[u8], index: &[u32], p: usize, id: u32) -> bool
+    requires { ⌜ id ≡ memberAt (now b) p .id ⌝ }
+    ensures { λ r. ⌜ r ≡ (firstIdOk true (memberAt (now (b .entry)) p) && firstKindOk (typesBy (now (b .entry)) (now (index .entry))) true (memberAt (now (b .entry)) p) && firstDefaultOk true (memberAt (now (b .entry)) p) && firstLabelOk true (memberAt (now (b .entry)) p)) ⌝ }
 {
-    if !first {
-        return true;
-    }
     let kind = types::kind(b, place(b, index, member::type_index(b, p)));
-    ground::in_range(kind as u64, 1, 15) | (kind == 19) | (kind == 21)
-}
-
-fn flags_ok(b: &[u8], p: usize, first: bool) -> bool
-    ensures { λ r. ⌜ r ≡ (flagsOk (memberAt (now (b .entry)) p) && firstDefaultOk first (memberAt (now (b .entry)) p)) ⌝ }
-{
-    (member::flags(b, p) <= 3) & (!first | !member::is_default(b, p))
-}
-
-fn labels_ok(b: &[u8], p: usize, first: bool) -> bool
-    ensures { λ r. ⌜ r ≡ (labelCountOk (memberAt (now (b .entry)) p) && firstLabelOk first (memberAt (now (b .entry)) p)) ⌝ }
-{
-    let n = member::label_count(b, p);
-    (n <= 16) & (!first | (n == 0))
+    (id == 0)
+        & (ground::in_range(kind as u64, 1, 15) | (kind == 19) | (kind == 21))
+        & !member::is_default(b, p)
+        & (member::label_count(b, p) == 0)
 }
 
 // The member at p, of the type at `at`, record k, with `done` members before it, whose ids are below `top`; `id` is its own.
@@ -238,12 +218,15 @@ fn member_ok(
     requires { ⌜ Below top (earlier (now b) at done) × (id ≡ memberAt (now b) p .id) ⌝ }
     ensures { λ r. ⌜ r ≡ memberOk (typesBy (now (b .entry)) (now (index .entry))) k (typeAt (now (b .entry)) at) (earlier (now (b .entry)) at done) (memberAt (now (b .entry)) p) ⌝ }
 {
-    let first = (types::kind(b, at) == UNION) & (done == 0);
-    id_ok(b, at, done, top, id, first)
-        & (link_ok(b, at, k, p) & first_kind_ok(b, index, p, first))
-        & flags_ok(b, p, first)
+    let all = id_differs(b, at, done, top, id)
+        & link_ok(b, at, k, p)
+        & (member::flags(b, p) <= 3)
         & (member::construct(b, p) <= 2)
-        & labels_ok(b, p, first)
+        & (member::label_count(b, p) <= 16);
+    if (types::kind(b, at) == UNION) & (done == 0) {
+        return all & first_ok(b, index, p, id);
+    }
+    all
 }
 
 // A number above the id, and no less than `top`.
