@@ -37,6 +37,11 @@ later b ms = membersOf (ms .left - 1) (pastMember (from b (ms .at)))
 unfoldable pub earlier : List ℕ → ℕ → ℕ → List Member
 earlier b at n = membersOf n (drop 14 (from b at))
 
+-- the ids of these members are all below top
+unfoldable pub Below : ℕ → List Member → Type 0
+Below top [] = Unit {0}
+Below top (m ∷ ms) = (m .id < top) × Below top ms
+
 -- r is the run of the members of the type at `at`
 pub record Started (b : List ℕ) (at : ℕ) (r : Run) : Type 0 where
   pub place : r .at ≡ onward b at 14

@@ -1,11 +1,12 @@
 // Whether a book is right: document 01's rules of a book, in reading order. Counts are tested before the loops that they bound.
 ghost use mathlib.Core.Path.{_≡_};
-ghost use mathlib.Core.Bool.{_&&_};
+ghost use mathlib.Core.Bool.{true, _&&_};
 ghost use mathlib.Core.List.{[]};
+ghost use Prim.Native.Nat.{ℕ, _<_, _≤_};
 ghost use lib.ListN.{length};
-ghost use Rattle.book.specs.Places.{from, memberAt, typeAt, listed, earlier, typesBy};
+ghost use Rattle.book.specs.Places.{from, memberAt, typeAt, listed, earlier, Below, typesBy};
 ghost use Rattle.book.specs.Rules.{headOk, filled, recordLengthOk, codesOk, boundsOk, elementOk, countOk, ownOk};
-ghost use Rattle.book.specs.Rules.{every, otherId, idOk, firstIdOk, linkOk, firstKindOk, flagsOk, firstDefaultOk, labelCountOk, firstLabelOk};
+ghost use Rattle.book.specs.Rules.{every, otherId, linkOk, firstIdOk, firstKindOk, firstDefaultOk, firstLabelOk};
 ghost use Rattle.book.specs.Rules.{memberOk, membersOk, recordOk, recordsOk, bookOk};
 use crate::bytes::byte_at;
 use crate::bytes::left_at;
@@ -109,10 +110,38 @@ fn count_ok(b: &[u8], at: usize) -> bool
         & (!((kind == ENUM) | (kind == UNION)) | (1 <= n))
 }
 
+// Whether the type is an extensibility and a kind that asks for nothing else. Most are, and keep every rule.
+fn is_plain(b: &[u8], at: usize) -> bool
+    ensures { λ r. ⌜ ((k : ℕ) → r ≡ true → true ≡ ownOk k (typeAt (now (b .entry)) at)) ⌝ }
+{
+    if 20 < types::kind(b, at) {
+        return false;
+    }
+    if 2 < types::extensibility(b, at) {
+        return false;
+    }
+    if types::base(b, at) != 0 {
+        return false;
+    }
+    if types::bound_flag(b, at) != 0 {
+        return false;
+    }
+    if types::bound(b, at) != 0 {
+        return false;
+    }
+    if types::element(b, at) != NONE {
+        return false;
+    }
+    member::member_count(b, at) == 0
+}
+
 // The own bytes of record k.
 fn own_ok(b: &[u8], at: usize, k: usize) -> bool
     ensures { λ r. ⌜ r ≡ ownOk k (typeAt (now (b .entry)) at) ⌝ }
 {
+    if is_plain(b, at) {
+        return true;
+    }
     codes_ok(b, at) & bound_ok(b, at) & element_ok(b, at, k) & count_ok(b, at)
 }
 
@@ -137,17 +166,20 @@ fn id_is_new(b: &[u8], ms: Run, id: u32) -> bool
     true
 }
 
-// A member's id: another than those of the `done` members before it, and 0 for the first of a union.
-fn id_ok(b: &[u8], at: usize, done: usize, p: usize, first: bool) -> bool
-    ensures { λ r. ⌜ r ≡ (idOk (earlier (now (b .entry)) at done) (memberAt (now (b .entry)) p) && firstIdOk first (memberAt (now (b .entry)) p)) ⌝ }
+// Whether none of the `done` members before has this id. Theirs are below `top`: an id that is not need not be compared with each.
+fn id_differs(b: &[u8], at: usize, done: usize, top: u64, id: u32) -> bool
+    requires { ⌜ Below top (earlier (now b) at done) ⌝ }
+    ensures { λ r. ⌜ r ≡ every (otherId id) (earlier (now (b .entry)) at done) ⌝ }
 {
-    let id = member::id(b, p);
+    if top <= id as u64 {
+        return true;
+    }
     let start = skip(b, at, 14);
     let before = Run {
         at: start,
         left: done,
     };
-    id_is_new(b, before, id) & (!first | (id == 0))
+    id_is_new(b, before, id)
 }
 
 fn link_ok(b: &[u8], at: usize, k: usize, p: usize) -> bool
@@ -160,48 +192,70 @@ fn link_ok(b: &[u8], at: usize, k: usize, p: usize) -> bool
     link < k
 }
 
-fn first_kind_ok(b: &[u8], index: &[u32], p: usize, first: bool) -> bool
-    ensures { λ r. ⌜ r ≡ firstKindOk (typesBy (now (b .entry)) (now (index .entry))) first (memberAt (now (b .entry)) p) ⌝ }
+// What is asked of the first member of a union alone.
+fn first_ok(b: &[u8], index: &[u32], p: usize, id: u32) -> bool
+    requires { ⌜ id ≡ memberAt (now b) p .id ⌝ }
+    ensures { λ r. ⌜ r ≡ (firstIdOk true (memberAt (now (b .entry)) p) && firstKindOk (typesBy (now (b .entry)) (now (index .entry))) true (memberAt (now (b .entry)) p) && firstDefaultOk true (memberAt (now (b .entry)) p) && firstLabelOk true (memberAt (now (b .entry)) p)) ⌝ }
 {
     let kind = types::kind(b, place(b, index, member::type_index(b, p)));
-    !first | (ground::in_range(kind as u64, 1, 15) | (kind == 19) | (kind == 21))
+    (id == 0)
+        & (ground::in_range(kind as u64, 1, 15) | (kind == 19) | (kind == 21))
+        & !member::is_default(b, p)
+        & (member::label_count(b, p) == 0)
 }
 
-fn flags_ok(b: &[u8], p: usize, first: bool) -> bool
-    ensures { λ r. ⌜ r ≡ (flagsOk (memberAt (now (b .entry)) p) && firstDefaultOk first (memberAt (now (b .entry)) p)) ⌝ }
-{
-    (member::flags(b, p) <= 3) & (!first | !member::is_default(b, p))
-}
-
-fn labels_ok(b: &[u8], p: usize, first: bool) -> bool
-    ensures { λ r. ⌜ r ≡ (labelCountOk (memberAt (now (b .entry)) p) && firstLabelOk first (memberAt (now (b .entry)) p)) ⌝ }
-{
-    let n = member::label_count(b, p);
-    (n <= 16) & (!first | (n == 0))
-}
-
-// The member at p, of the type at `at`, record k, with `done` members before it.
-fn member_ok(b: &[u8], index: &[u32], at: usize, k: usize, done: usize, p: usize) -> bool
+// The member at p, of the type at `at`, record k, with `done` members before it, whose ids are below `top`; `id` is its own.
+fn member_ok(
+    b: &[u8],
+    index: &[u32],
+    at: usize,
+    k: usize,
+    done: usize,
+    top: u64,
+    p: usize,
+    id: u32,
+) -> bool
+    requires { ⌜ Below top (earlier (now b) at done) × (id ≡ memberAt (now b) p .id) ⌝ }
     ensures { λ r. ⌜ r ≡ memberOk (typesBy (now (b .entry)) (now (index .entry))) k (typeAt (now (b .entry)) at) (earlier (now (b .entry)) at done) (memberAt (now (b .entry)) p) ⌝ }
 {
-    let first = (types::kind(b, at) == UNION) & (done == 0);
-    id_ok(b, at, done, p, first)
-        & (link_ok(b, at, k, p) & first_kind_ok(b, index, p, first))
-        & flags_ok(b, p, first)
+    let all = id_differs(b, at, done, top, id)
+        & link_ok(b, at, k, p)
+        & (member::flags(b, p) <= 3)
         & (member::construct(b, p) <= 2)
-        & labels_ok(b, p, first)
+        & (member::label_count(b, p) <= 16);
+    if (types::kind(b, at) == UNION) & (done == 0) {
+        return all & first_ok(b, index, p, id);
+    }
+    all
 }
 
+// A number above the id, and no less than `top`.
+fn above(top: u64, id: u32) -> u64
+    ensures { λ r. ⌜ (top ≤ r) × (id < r) ⌝ }
+{
+    let next = id as u64 + 1;
+    if next < top { top } else { next }
+}
+
+// Ids mostly rise from member to member, and are then compared with the greatest before them alone. That a member's 9 bytes are there is
+// known, and asked once for the compiler, which then leaves it out for each field.
 fn members_ok(b: &[u8], index: &[u32], at: usize, k: usize) -> bool
+    requires { ⌜ recordLengthOk (from (now b) at) ≡ true ⌝ }
     ensures { λ r. ⌜ r ≡ membersOk (typesBy (now (b .entry)) (now (index .entry))) k (typeAt (now (b .entry)) at) [] (typeAt (now (b .entry)) at .members) ⌝ }
 {
     let mut rest = member::members(b, at);
     let mut done = 0;
+    let mut top = 0;
     while 0 < rest.left {
         let p = rest.at;
-        if !member_ok(b, index, at, k, done, p) {
+        if left_at(b, p) < 9 {
             return false;
         }
+        let id = member::id(b, p);
+        if !member_ok(b, index, at, k, done, top, p, id) {
+            return false;
+        }
+        top = above(top, id);
         rest = member::after(b, rest);
         done += 1;
     }

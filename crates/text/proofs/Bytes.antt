@@ -1,13 +1,14 @@
--- Laws of the UTF-8 check: one for each way that a byte is taken, and the loop's turn and end. Assumes nothing.
+-- Laws of the UTF-8 check: one for each way that a byte is taken, the loop's turn and end, and the highest byte. Assumes nothing.
 use Prim.Native.Nat.{ℕ, zero, suc, _+_, _-_, _<_, _≤_}
 use mathlib.Core.Path.{_≡_, refl, ap}
-use mathlib.Core.Bool.{false}
+use mathlib.Core.Bool.{true, false}
 use mathlib.Core.List.{List, [], _∷_}
 use native.Mathlib.Omega.{arith}
 use native.Mathlib.Numerals.{add-one}
 use lib.Dec.{eqb, eqb·suc-zero}
 use lib.ListN.{length, getD, drop, drop-of-length-le}
 use lib.Seq.{drop-cons}
+use borrow.Author.Count.{below-more}
 use Rattle.ground.specs.Choice.{Range, _‥_}
 use Rattle.ground.proofs.Tests.{inside, below, above}
 use Rattle.text.specs.Unicode.{follow, table37, restGood}
@@ -15,6 +16,7 @@ use Rattle.text.specs.Step.{wantOf, tails, wantsOf, wants, followOf, aft
 use Rattle.text.specs.declared.utf8.Want.{Want}
 use Rattle.text.specs.declared.utf8.Step.{Step}
 use Rattle.text.specs.declared.utf8.Step.the-variants.{Next, Bad}
+use Rattle.text.proofs.Table.{line1}
 
 tails-are : (n : ℕ) → wantsOf n (0x80 ‥ 0xBF) ≡ tails n
 unfolding wantsOf tails
@@ -63,3 +65,15 @@ ended (suc n) g = eqb·suc-zero n
 
 pub at-end : (s : List ℕ) (i n : ℕ) (g : Range) → length s ≤ i → eqb n 0 ≡ restGood table37 (drop i s) (wantsOf n g)
 at-end s i n g h = rw (drop-of-length-le s h) (ended n g)
+
+-- no byte before i is above `top`, nor is the next above t
+pub top-turn : (s : List ℕ) (i top t : ℕ) → ((k : ℕ) → k < i → getD s k 0 ≤ top) → top ≤ t → getD s i 0 ≤ t → (k : ℕ) → k < i + 1 → getD s k 0 ≤ t
+top-turn s i top t inv h l = below-more _ _ (λ k b. omega (arith, inv k b)) l
+
+-- bytes that each are a line of the table by themselves
+pub ascii : (s : List ℕ) (top : ℕ) → ((k : ℕ) → k < length s → getD s k 0 ≤ top) → top < 0x80 → true ≡ restGood table37 s []
+unfolding restGood wantsOf
+ascii [] top f h = refl
+ascii (x ∷ xs) top f h =
+    let a : x < 0x80 = omega (arith, f 0 (omega arith)) in
+    rw (← line1 x (Next (wantOf 0 0 0)) refl a) (ascii xs top (λ k b. f (suc k) (omega arith)) h)

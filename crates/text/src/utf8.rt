@@ -1,7 +1,8 @@
 // Whether bytes are well-formed UTF-8, by the Unicode standard's Table 3-7.
 ghost use mathlib.Core.Path.{_≡_};
 ghost use mathlib.Core.List.{List, _∷_};
-ghost use Prim.Native.Nat.{ℕ};
+ghost use Prim.Native.Nat.{ℕ, _<_, _≤_};
+ghost use lib.ListN.{length, getD};
 ghost use Rattle.text.specs.Unicode.{table37, follow, restGood, utf8};
 ghost use Rattle.text.specs.Step.{wantOf, wants, followOf, after};
 
@@ -60,9 +61,32 @@ fn take(want: Want, x: u8) -> Step
     then(left - 1, 0x80, 0xBF)
 }
 
+fn greater(x: u8, y: u8) -> u8
+    ensures { λ r. ⌜ (x ≤ r) × (y ≤ r) ⌝ }
+{
+    if x < y { y } else { x }
+}
+
+// No byte is above this one. The loop has no other end than the text's, so that the compiler takes many bytes at a time.
+fn highest(s: &[u8]) -> u8
+    ensures { λ r. ⌜ ((k : ℕ) → k < length (now (s .entry)) → getD (now (s .entry)) k 0 ≤ r) ⌝ }
+{
+    let mut top = 0;
+    let mut i = 0;
+    while i < s.len() {
+        top = greater(top, s[i]);
+        i += 1;
+    }
+    top
+}
+
+// Most text is ASCII, which the highest byte tells; the bytes of any other are taken one after the other, from the first.
 pub fn is_utf8(s: &[u8]) -> bool
     ensures { λ r. ⌜ r ≡ utf8 (now (s .entry)) ⌝ }
 {
+    if highest(s) < 0x80 {
+        return true;
+    }
     let mut want = Want {
         left: 0,
         lo: 0,

@@ -17,7 +17,7 @@ returns-2 : tie.Need-returns-2
 returns-2 c = search (needs, record-laws)
 
 members-ok-requires : tie.Need-members-ok-requires
-members-ok-requires c κs = search needs
+members-ok-requires c κs = search (needs, record-laws)
 
 returns-3 : tie.Need-returns-3
 returns-3 c = search (needs, record-laws)

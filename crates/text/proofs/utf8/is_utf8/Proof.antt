@@ -1,4 +1,4 @@
--- `text::utf8::is_utf8` meets its contract: what is left of the bytes ends well, with what is still wanted, exactly when all of them do. Assumes nothing.
+-- `text::utf8::is_utf8` meets its contract: bytes below 80 are lines of the table, and of others what is left of the bytes ends well, with what is still wanted, exactly when all of them do. Assumes nothing.
 use Prim.Native.Nat.{_≤_, _-_}
 use mathlib.Core.Path.{_≡_, refl, _∙_}
 use mathlib.Core.List.{[]}
@@ -6,7 +6,7 @@ use lib.ListN.{length, drop}
 use borrow.Author.Needs.{needs}
 use Rattle.text.specs.Unicode.{restGood, table37}
 use Rattle.text.specs.Step.{wants, wantsOf}
-use Rattle.text.proofs.Bytes.{turn-next, turn-bad, at-end}
+use Rattle.text.proofs.Bytes.{ascii, turn-next, turn-bad, at-end}
 use Rattle.text.proofs.utf8.is_utf8.Statement.{statement}
 use Rattle.text.proofs.utf8.is_utf8.Tie as tie
 
@@ -15,6 +15,12 @@ Inv-loop s want₀ i₀ want i = (i ≤ length s) × (restGood table37 (drop i s
 
 abbrev μ-loop : tie.MeasureT-loop
 μ-loop s want₀ i₀ want i = length s - i
+
+highest-requires : tie.Need-highest-requires Inv-loop μ-loop
+highest-requires c κs = search needs
+
+returns : tie.Need-returns Inv-loop μ-loop
+returns c = ascii _ _ (c .before .highest .ensures) (c .if1 .taken)
 
 loop-holds : tie.Need-loop-holds Inv-loop μ-loop
 unfolding wantsOf
@@ -32,8 +38,8 @@ enum-known-next c = search needs
 enum-told : tie.Need-enum-told Inv-loop μ-loop
 enum-told c = search needs
 
-returns : tie.Need-returns Inv-loop μ-loop
-returns c = let t = c .before .before .take in
+returns-2 : tie.Need-returns-2 Inv-loop μ-loop
+returns-2 c = let t = c .before .before .take in
     let l = c .before .before .before .before in
     turn-bad _ _ (l .before .loop .want) (t .result) (l .loop-test .taken) (t .ensures) (c .enum-told .given .1) ∙ l .before .loop .inv .1
 
@@ -50,8 +56,8 @@ loop-again c = let t = c .before .before .before .take in
       turn-next _ _ (l .before .loop .want) (t .result) (l .loop-test .taken) (t .ensures) _ (c .before .next .given .1) ∙ l .before .loop .inv .1,
     )
 
-returns-2 : tie.Need-returns-2 Inv-loop μ-loop
-returns-2 c = at-end _ _ _ _ (c .before .loop-test .left) ∙ c .before .before .loop .inv .1
+returns-3 : tie.Need-returns-3 Inv-loop μ-loop
+returns-3 c = at-end _ _ _ _ (c .before .loop-test .left) ∙ c .before .before .loop .inv .1
 
 pub is-utf8-spec : {M : Type 1} → statement M
 is-utf8-spec =
@@ -59,13 +65,15 @@ is-utf8-spec =
     (tie.spec
     Inv-loop
     μ-loop
+    highest-requires
+    returns
     loop-holds
     shared-slice-read-take
     take-requires
     enum-known-next
     enum-told
-    returns
+    returns-2
     add-i
     loop-less
     loop-again
-    returns-2)
+    returns-3)
