@@ -5,4 +5,4 @@ pub mod StructureSteps
 pub mod UnionSteps
 pub mod NestedSteps
 mod Rules
-mod Examples
+pub mod Examples

@@ -4,3 +4,4 @@ pub mod Preparing
 pub mod Spans
 pub mod Packing
 pub mod Demand3
+pub mod Examples
