@@ -4,4 +4,5 @@ pub mod Preparing
 pub mod Spans
 pub mod Packing
 pub mod Demand3
-pub mod Examples
+pub mod TextRows
+mod Examples
