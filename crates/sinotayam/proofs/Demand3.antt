@@ -1,5 +1,5 @@
 -- DEMAND 3 OF THE CALLS: a message, or data, of a type that the check passes. The statements cite only definitions of `specs/`. Assumes nothing.
-use Prim.Native.Nat.{ℕ, _+_, _*_, _%_, _/_, _<_}
+use Prim.Native.Nat.{ℕ, _%_, _<_}
 use mathlib.Core.Path.{_≡_, refl, sym, _∙_}
 use mathlib.Core.Bool.{Bool, true, false}
 use mathlib.Core.List.{List}
@@ -11,12 +11,9 @@ use Rattle.wire.specs.declared.settings.Representation.{Representation}
 use Rattle.wire.specs.declared.settings.Representation.the-variants.{Known, Unknown}
 use Rattle.wire.specs.Identifier.{settingsOf}
 use Rattle.book.specs.Types.{BookType, typesOf, typeCount}
-use Rattle.book.specs.Rules.{bookOk}
 use Rattle.book.proofs.Good.{length-types}
-use Rattle.table.specs.Rows.{capacity}
-use Rattle.reader.specs.Nested.{reading}
 use Rattle.fit.specs.Check.{checkOf}
-use Rattle.fit.specs.Demand3.{Checked, fit, bad-book, bad-root, unfit, Told, finished-reading, too-few-bytes, invalid-data, full-table, absent-discriminator}
+use Rattle.fit.specs.Demand3.{Checked, fit, bad-book, bad-root, unfit, finished-reading, too-few-bytes, invalid-data, full-table, absent-discriminator}
 use Rattle.fit.proofs.Demand3.{check-says, demand-3}
 use Rattle.sinotayam.specs.declared.answer.Number.{Number}
 use Rattle.sinotayam.specs.declared.answer.Number.the-variants.{NotEnoughData, InvalidData, BadRoot, TooLong}

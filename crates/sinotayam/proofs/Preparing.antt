@@ -2,16 +2,14 @@
 use mathlib.Core.Path.{_≡_, refl, sym, ap, _∙_}
 use mathlib.Core.Bool.{Bool, true, false, not}
 use mathlib.Core.List.{List, [], _∷_, _++_, append-nil}
-use Prim.Native.Nat.{ℕ, zero, suc, _+_, _-_, _≤_, _<_, min}
+use Prim.Native.Nat.{ℕ, zero, suc, _+_, _-_, _≤_, _<_}
 use native.Mathlib.Omega.{arith}
-use lib.Dec.{eqb, ltb}
 use native.Mathlib.Nat.{le-refl}
 use lib.ListN.{length, getD, take, drop, set, length-take, length-drop, drop-of-length-le}
 use lib.Seq.{take-at, take-length, getD-set-same}
 use borrow.Rule.Slice.PartMut.{putMid}
 use borrow.Author.Tests.{le-ltb, lt-ltb, eq-eqb, ne-eqb, not-true, not-false}
-use Rattle.ground.specs.Choice.{both}
-use Rattle.book.specs.Types.{BookType, typeCount, typesOf, typesFrom}
+use Rattle.book.specs.Types.{BookType, typeCount, typesOf}
 use Rattle.book.specs.Places.{from, placesFrom, indexCount, indexed, typesBy}
 use Rattle.book.specs.Rules.{bookOk}
 use Rattle.book.proofs.Indexing.{places-spell, length-places}

@@ -8,8 +8,8 @@ use native.Mathlib.Omega.{arith}
 use mir.Syntax.{w64}
 use mir.Val.{Fits}
 use lib.Dec.{eqb, leb}
-use lib.ListN.{length, take, drop}
-use borrow.Author.Tests.{le-leb, lt-leb, leb-true, eq-eqb, ne-eqb, eqb-true, not-true, not-false}
+use lib.ListN.{take, drop}
+use borrow.Author.Tests.{le-leb, lt-leb, leb-true, ne-eqb, not-true, not-false}
 use Rattle.ground.specs.Choice.{pick, both, among}
 use Rattle.ground.proofs.Tests.{both-false}
 use Rattle.table.specs.declared.rows.Row.{Row}

@@ -1,7 +1,6 @@
 -- The text call. "The text call takes table, row number, data: for a row of kind 16 or 17 inside the table whose place is inside the data, it
 -- hands back that very part of the data (twice b bytes for 17); else an empty part. A companion call on the same three tells which: 0 or 15."
 use Prim.Native.Nat.{ℕ, _+_}
-use mathlib.Core.Bool.{Bool}
 use mathlib.Core.List.{List, [], _∷_}
 use lib.Dec.{eqb, leb}
 use lib.ListN.{length, take, drop}

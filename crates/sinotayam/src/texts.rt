@@ -1,6 +1,5 @@
 // The text call: the part of the data that a text row points to.
 ghost use mathlib.Core.Path.{_≡_};
-ghost use lib.ListN.{length};
 ghost use Rattle.sinotayam.specs.Answer.{codeOf};
 ghost use Rattle.sinotayam.specs.Text.{spanOf, spanIn, textOf, textNumber};
 use crate::answer::Number;
