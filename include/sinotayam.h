@@ -43,10 +43,11 @@ uint64_t sinotayam_read(const uint8_t *book, size_t book_len, uint16_t root, con
 uint8_t sinotayam_check(const uint8_t *book, size_t book_len, uint16_t root);
 
 /* Judges a book once, and fills an index for sinotayam_read_prepared. Returns 0; 8 for a book that breaks a rule; 13 where the index has fewer
-   words than the book has types and one more. After 8 and 13 the index holds no types, and every reading with it is 8. */
+   words than the book has types and one more. After 8 and 13 the index holds no types, and every reading with it is 8, also where sinotayam_read
+   would read: use an index only after 0. */
 uint8_t sinotayam_prepare(const uint8_t *book, size_t book_len, uint32_t *index, size_t index_len);
 
-/* The same as sinotayam_read, with an index that sinotayam_prepare filled from the same book: the book is not judged again. */
+/* The same as sinotayam_read, with an index for which sinotayam_prepare returned 0 on the same book: the book is not judged again. */
 uint64_t sinotayam_read_prepared(const uint8_t *book, size_t book_len, const uint32_t *index, size_t index_len, uint16_t root, const uint8_t *message, size_t message_len, uint64_t *table, size_t words);
 
 /* Whether row number `row` of the table is a text whose place is inside the data, which is the message without its first four bytes: 0 or 15.

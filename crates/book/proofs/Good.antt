@@ -1,20 +1,17 @@
 -- What a right book gives to those who read it: each rule as a fact about its types. Assumes nothing.
 use Prim.Native.Nat.{ℕ, zero, suc, _+_, _<_, _≤_}
-use mathlib.Core.Path.{_≡_, refl, sym, ap, subst, _∙_}
+use mathlib.Core.Path.{_≡_, refl, sym, ap, _∙_}
 use mathlib.Core.Bool.{Bool, true, false, not, _&&_, _||_}
 use mathlib.Core.List.{List, [], _∷_, _++_, append-assoc, append-nil}
-use mathlib.Core.Option.{Option, none, some}
 use native.Mathlib.Omega.{arith}
 use native.Mathlib.Nat.{add-zero, le-of-lt}
 use lib.Dec.{eqb, ltb, leb}
 use lib.ListN.{length, getD, take, drop}
-use lib.IntN.{ℤ}
 use lib.Seq.{length-take-le, getD-take}
 use borrow.Author.Tests.{leb-true, ltb-true, eqb-true, eq-eqb, ne-eqb, not-true, eqb-false}
 use Rattle.ground.specs.Choice.{both, _‥_, within}
 use Rattle.book.specs.Types.{Member, BookType, default, bounded, noIndex, quad, typeOf, pastType, typeCount, typesFrom, typesOf, typeNo}
 use Rattle.book.specs.Places.{from, typesBy, indexCount, indexed}
-use Rattle.book.specs.Labels.{isIn, orElse, when, firstWith, lastDefault}
 use Rattle.book.specs.Rules.{isEnum, isUnion, isArray, isList, sizeOk, versionOk, typeCountOk, headOk, recordLengthOk, kindOk, extensibilityOk, baseOk, boundFlagOk, codesOk, arrayBoundOk, boundOk, boundsOk, elementOk, memberCountOk, memberKindOk, someMemberOk, countOk, ownOk}
 use Rattle.book.specs.Rules.{every, otherId, idOk, linkOk, flagsOk, constructOk, labelCountOk, firstOfUnion, firstIdOk, firstKindOk, firstDefaultOk, firstLabelOk, memberOk, membersOk, typeOk, recordOk, recordsOk, bookOk}
 use Rattle.book.proofs.Kept.{apart, both-first, both-second, kept, asked, or-other, picked, unpicked}
@@ -222,11 +219,6 @@ module _ (types : List BookType) (k : ℕ) (t : BookType) where
       let r = members-good (before ++ m ∷ []) ms (both-second (memberOk types k t before m) (membersOk types k t (before ++ m ∷ []) ms) e) in
       ((member-good types k t before m h, r .0), (new-id types k t before m h, r .1))
 
-pub each-at : (P : Member → Type 0) (ms : List Member) (d : Member) (j : ℕ) → Each P ms → j < length ms → P (getD ms j d)
-each-at P [] d j x h = absurd (omega arith)
-each-at P (m ∷ ms) d zero x h = x .0
-each-at P (m ∷ ms) d (suc j) x h = each-at P ms d j (x .1) (omega arith)
-
 every-at : (f : Member → Bool) (ms : List Member) (d : Member) (j : ℕ) → every f ms ≡ true → j < length ms → f (getD ms j d) ≡ true
 unfolding every
 every-at f [] d j e h = absurd (omega arith)
@@ -267,31 +259,3 @@ module _ (types : List BookType) (k : ℕ) (t : BookType) (e : typeOk types k t 
       let y : otherId (getD ms j d .id) (getD (take j ms) i d) ≡ true = every-at (otherId (getD ms j d .id)) (take j ms) d i x (omega (arith, length-take-le j ms (le-of-lt h))) in
       let z : not (eqb (getD ms i d .id) (getD ms j d .id)) ≡ true = rw (getD-take j ms i d l) at y in
       eqb-false (getD ms i d .id) (getD ms j d .id) (not-true (eqb (getD ms i d .id) (getD ms j d .id)) z) g
-
--- the same by way of the index
-pub type-indexed : (b t : List ℕ) (k : ℕ) → bookOk b ≡ true → 64 ≤ length t → k < typeCount b
-    → typeOk (typesBy b (take (indexCount b (length t)) (indexed b t))) k (typeNo (typesBy b (take (indexCount b (length t)) (indexed b t))) k) ≡ true
-type-indexed b t k e room h = rw (index-good b t e room) (type-good b k e (omega (arith, length-types b)))
-
--- a member that is found keeps what all keep
-module _ (P : Member → Type 0) where
-  found : (t : Bool) (x m : Member) (o : Option Member) → P x → (o ≡ some m → P m) → orElse (when t x) o ≡ some m → P m
-  unfolding orElse when
-  found true x m o p f e = subst P (let g : x ≡ m = cc in g) p
-  found false x m o p f e = f e
-
-  pub first-keeps : (d : ℤ) (ms : List Member) (m : Member) → Each P ms → firstWith d ms ≡ some m → P m
-  unfolding firstWith
-  first-keeps d [] m x e = absurd (let z : _≡_ {A = ℕ} 0 1 = cc in omega arith)
-  first-keeps d (n ∷ ns) m x e = found (isIn d (n .labels)) n m (firstWith d ns) (x .0) (first-keeps d ns m (x .1)) e
-
-  last : (t : Bool) (x m : Member) (o : Option Member) → P x → (o ≡ some m → P m) → orElse o (when t x) ≡ some m → P m
-  unfolding orElse when
-  last t x m (some y) p f e = f e
-  last true x m none p f e = subst P (let g : x ≡ m = cc in g) p
-  last false x m none p f e = absurd (let z : _≡_ {A = ℕ} 0 1 = cc in omega arith)
-
-  pub last-keeps : (ms : List Member) (m : Member) → Each P ms → lastDefault ms ≡ some m → P m
-  unfolding lastDefault
-  last-keeps [] m x e = absurd (let z : _≡_ {A = ℕ} 0 1 = cc in omega arith)
-  last-keeps (n ∷ ns) m x e = last (default n) n m (lastDefault ns) (x .0) (last-keeps ns m (x .1)) e

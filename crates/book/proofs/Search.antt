@@ -74,7 +74,7 @@ module _ (d : ℤ) (b : List ℕ) (ms : Run) (whole : Option Member) (inv : firs
 pub ruleset first-laws = (first-start, first-found, first-turn, first-end)
 
 -- the last default
-or-none : (o : Option Member) → orElse o none ≡ o
+pub or-none : (o : Option Member) → orElse o none ≡ o
 unfolding orElse
 or-none none = refl
 or-none (some m) = refl

@@ -1,6 +1,6 @@
 -- The check at work: types that it passes, one for each kind; types that fail by one clause alone; chains of 16 and 17; a diamond of 64 records,
 -- whose paths no walk could follow one by one; example 1's book. And what the shape of rows rules out. All are computed from the definitions.
-use Prim.Native.Nat.{ℕ, zero, suc, _-_}
+use Prim.Native.Nat.{ℕ, zero, suc, _+_, _-_, _*_, _≤_}
 use mathlib.Core.Path.{_≡_, refl, sym, ap, _∙_}
 use mathlib.Core.Bool.{Bool, true, not}
 use mathlib.Core.List.{List, [], _∷_, _++_}
@@ -15,9 +15,10 @@ use Rattle.table.specs.Rows.{row}
 use Rattle.reader.specs.Value.{readAs}
 use Rattle.fit.specs.Fit.{memberTypes, linksOf, memberSupported, membersSupported, elementSupported, baseSupported, chooses, firstChooses, discriminatorFits}
 use Rattle.fit.specs.Check.{clausesMet, longestFrom, withOwn, chainOf, chainsOf, fits, checkOf}
-use Rattle.fit.specs.Shape.{Opened, storedKind}
+use Rattle.fit.specs.Shape.{Value, Opened, storedKind}
 use Rattle.fit.specs.Walk.{extent, span, direct, InOrder, none-left, without, with}
-use Rattle.fit.proofs.Demand3.{rows-beneath, rows-in-order}
+use Rattle.fit.proofs.Demand3.{rows-beneath, rows-in-order, array-size}
+use Rattle.fit.proofs.Flat.{each-row}
 
 -- ---- types to try
 
@@ -183,6 +184,31 @@ other-kind s x o = go (rows-in-order o (λ e. omega arith) 1) refl
     go none-left e = let z : _≡_ {A = ℕ} 0 1 = ap length e in omega arith
     go (without more) e = nothing-left (row 8 0 x 0 ∷ []) more e (λ z. omega arith)
     go (with i k more) e = let z : _≡_ {A = ℕ} 4 8 = sym k ∙ ap kindIn e in omega arith
+
+-- the rows of two members in the other order
+out-of-order : (s : List ℕ) (x y : ℕ) → Opened (plain 4 ∷ structure (0 ∷ 0 ∷ []) ∷ []) s 1 0 (row 22 0 1 2 ∷ row 4 1 x 0 ∷ row 4 0 y 0 ∷ []) → ⊥
+unfolding direct span extent opens typeNo
+out-of-order s x y o = go (rows-in-order o (λ e. omega arith) 2) refl
+  where
+    idIn : List Row → ℕ
+    idIn [] = 0
+    idIn (r ∷ rs) = r .id
+
+    go : {types : List BookType} {qs : List Row} → InOrder types (member 0 0 ∷ member 1 0 ∷ []) qs → qs ≡ row 4 1 x 0 ∷ row 4 0 y 0 ∷ [] → ⊥
+    go none-left e = let z : _≡_ {A = ℕ} 0 2 = ap length e in omega arith
+    go (with i k more) e = let z : _≡_ {A = ℕ} 0 1 = sym i ∙ ap idIn e in omega arith
+    go (without none-left) e = let z : _≡_ {A = ℕ} 0 2 = ap length e in omega arith
+    go (without (without more)) e = nothing-left (row 4 1 x 0 ∷ row 4 0 y 0 ∷ []) more e (λ z. omega arith)
+    go (without (with i k more)) e = nothing-left (row 4 0 y 0 ∷ []) more (ap tail e) (λ z. omega arith)
+
+-- a text that ends one byte past the data
+text-outside : (s : List ℕ) → length s ≡ 2 → Opened (plain 16 ∷ structure (0 ∷ []) ∷ []) s 1 0 (row 22 0 1 1 ∷ row 16 0 2 1 ∷ []) → ⊥
+text-outside s e o = let z : 2 + 1 * 1 ≤ length s = each-row o 1 (omega arith) .text8 refl in omega arith
+
+-- an array of three that tells two elements
+short-array : (s : List ℕ) (rs : List Row) → Value (plain 4 ∷ array 3 0 ∷ []) s 1 0 (row 25 0 4 2 ∷ rs) → ⊥
+unfolding typeNo
+short-array s rs v = let z : _≡_ {A = ℕ} 2 3 = array-size v refl .0 in omega arith
 
 -- ---- example 1's book, as bytes: BadBook, BadRoot, Unfit, passes
 

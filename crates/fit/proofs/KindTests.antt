@@ -43,6 +43,10 @@ kind-each f t k h = true-is (f k) (between f 28 0 t k (omega arith) (omega arith
 abbrev numbers : List ℕ
 numbers = 1 ∷ 2 ∷ 3 ∷ 4 ∷ 5 ∷ 6 ∷ 7 ∷ 8 ∷ 9 ∷ 10 ∷ 11 ∷ 12 ∷ 13 ∷ 14 ∷ 19 ∷ []
 
+-- the kinds of a number's row
+abbrev pub number-kinds : List ℕ
+number-kinds = 1 ∷ 3 ∷ 4 ∷ 5 ∷ 6 ∷ 7 ∷ 8 ∷ 9 ∷ 10 ∷ 11 ∷ 12 ∷ 13 ∷ 14 ∷ []
+
 -- what is read as a single number or text: any primitive but CHAR16, STRING8, STRING16
 abbrev pub readable : ℕ → Bool
 readable k = pick (eqb k 15) false (pick (eqb k 16) true (pick (eqb k 17) true (isPrimitive k)))
@@ -206,3 +210,12 @@ module _ (t : BookType) where
   pub own-stored : (n : ℕ) → t .kind ≡ n → eqb n 19 ≡ false → storedKind t ≡ storedOf n
   unfolding storedKind
   own-stored n e m = rw (plain-read (rw (← e) at m)) (ap storedOf e)
+
+  -- it has one of these kinds
+  pub number-row : isNumber t ≡ true → among number-kinds (storedKind t) ≡ true
+  unfolding isNumber storedKind storedOf every
+  number-row n =
+      by-mask (among number-kinds (storedOf (readAs t)) ≡ true) (λ m.
+      rw (mask-read m)
+      (among-each (λ k. among number-kinds (storedOf k)) (13 ∷ 6 ∷ 7 ∷ 8 ∷ []) tt (bitmaskStored (bounded t) (t .bound)) (bitmask-among (bounded t) (t .bound)))) (λ m.
+      rw (plain-read m) (rw m at (among-each (λ k. pick (eqb k 19) true (among number-kinds (storedOf k))) numbers tt (t .kind) n)))

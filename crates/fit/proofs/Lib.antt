@@ -9,5 +9,6 @@ pub mod Asked
 pub mod Measuring
 pub mod Checking
 pub mod Walking
+pub mod Flat
 pub mod Demand3
 mod Examples

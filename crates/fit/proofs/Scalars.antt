@@ -1,5 +1,5 @@
 -- What may come of a reading of a fit type, and that a value which opens nothing keeps to it. Assumes nothing.
-use Prim.Native.Nat.{ℕ, _+_, _-_}
+use Prim.Native.Nat.{ℕ, _-_}
 use mathlib.Core.Path.{_≡_, refl, sym, _∙_}
 use mathlib.Core.Bool.{Bool, true, false, not}
 use mathlib.Core.List.{List, [], _∷_}
@@ -7,7 +7,6 @@ use native.Mathlib.Omega.{arith}
 use lib.Dec.{eqb, T}
 use borrow.Author.Tests.{eqb-true, eqb-false, eq-eqb}
 use Rattle.wire.specs.declared.cursor.Cursor.{Cursor}
-use Rattle.wire.specs.declared.cursor.Place.{Place}
 use Rattle.wire.specs.declared.settings.Settings.{Settings}
 use Rattle.wire.specs.declared.number.Number.{Number}
 use Rattle.wire.specs.declared.number.Number.the-variants as number
@@ -25,7 +24,7 @@ use Rattle.table.specs.declared.rows.Row.{Row}
 use Rattle.table.specs.declared.out.Refusal.{Refusal}
 use Rattle.table.specs.declared.out.Refusal.the-variants.{InvalidData, NoRoom, NoDiscriminator}
 use Rattle.table.specs.Rows.{row}
-use Rattle.table.specs.Outcome.{Outcome, read}
+use Rattle.table.specs.Outcome.{Outcome}
 use Rattle.values.specs.Scalar.{rowed, onBoolean, onFloat128, onNumber, onText, scalarOf}
 use Rattle.book.proofs.Kept.{apart}
 use Rattle.fit.specs.Shape.{Inside}

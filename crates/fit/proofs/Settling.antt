@@ -17,7 +17,6 @@ use Rattle.wire.specs.declared.cursor.Place.the-variants as place
 use Rattle.wire.specs.declared.settings.Settings.{Settings}
 use Rattle.wire.specs.declared.settings.Version.{Version}
 use Rattle.wire.specs.declared.settings.Version.the-variants.{Xcdr1, Xcdr2}
-use Rattle.wire.specs.declared.number.Number.{Number}
 use Rattle.wire.specs.declared.number.Number.the-variants as number
 use Rattle.wire.specs.declared.number.Boolean.{Boolean}
 use Rattle.wire.specs.declared.number.Boolean.the-variants as boolean
@@ -40,7 +39,7 @@ use Rattle.lookup.specs.declared.member.Located.{Located}
 use Rattle.lookup.specs.declared.member.Located.the-variants as located
 use Rattle.table.specs.declared.rows.Row.{Row}
 use Rattle.table.specs.Rows.{row}
-use Rattle.table.specs.Outcome.{Outcome, read, short, refused}
+use Rattle.table.specs.Outcome.{Outcome}
 use Rattle.values.specs.Scalar.{scalarOf, enumOf}
 use Rattle.values.specs.List.{elementsFrom, listOf, onBlock, blockOf}
 use Rattle.values.specs.Header.{countFrom, countAt, listStart, unheardDheader}

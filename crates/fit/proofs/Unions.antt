@@ -1,6 +1,6 @@
 -- A union's discriminator and the member that it selects, by the rows and the rules of a book. Assumes nothing.
 use Prim.Native.Nat.{ℕ}
-use mathlib.Core.Path.{_≡_, refl, sym, _∙_}
+use mathlib.Core.Path.{_≡_, sym, _∙_}
 use mathlib.Core.Bool.{Bool, true, false, not}
 use mathlib.Core.List.{List, [], _∷_, List·Memᴰ·head, List·Memᴰ·tail}
 use mathlib.Core.Option.{Option, none, some}
@@ -12,12 +12,12 @@ use Rattle.ground.specs.Choice.{pick, among}
 use Rattle.book.specs.Types.{BookType, Member, default, typeNo}
 use Rattle.book.specs.Labels.{isIn, orElse, when, firstWith, lastDefault}
 use Rattle.book.specs.Rules.{every}
+use Rattle.book.proofs.Search.{or-none}
 use Rattle.book.proofs.Kept.{apart}
 use Rattle.table.specs.declared.rows.Row.{Row}
 use Rattle.table.specs.Rows.{row}
 use Rattle.choice.specs.Discriminator.{discriminatorIn, enumIn, discriminatorOf}
 use Rattle.choice.specs.Select.{byDefaultValue, defaultValue, selectedOf}
-use Rattle.choice.specs.declared.discriminator.Discriminator.{Discriminator}
 use Rattle.choice.specs.declared.discriminator.Discriminator.the-variants.{Unfit}
 use Rattle.fit.specs.Fit.{OneOf, chooses}
 use Rattle.fit.specs.Shape as shape
@@ -49,11 +49,6 @@ never-unfit types s m rs (shape.present (shape.sequence n e x)) c z = apart (rw 
 never-unfit types s m rs (shape.present (shape.array e x)) c z = apart (rw e at c)
 
 -- ---- the member that is selected is another than the discriminator
-
-or-none : (o : Option Member) → orElse o none ≡ o
-unfolding orElse
-or-none (some m) = refl
-or-none none = refl
 
 when-is : (b : Bool) (m x : Member) → when b m ≡ some x → x ≡ m
 unfolding when

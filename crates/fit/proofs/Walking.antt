@@ -11,7 +11,6 @@ use lib.Seq.{drop-at}
 use Rattle.kinds.specs.Kinds.{opens, storedOf}
 use Rattle.book.specs.Types.{BookType, Member, typeNo}
 use Rattle.table.specs.declared.rows.Row.{Row}
-use Rattle.table.specs.Rows.{row}
 use Rattle.fit.specs.Fit.{OneOf}
 use Rattle.fit.specs.Shape as shape
 use Rattle.fit.specs.Shape.{Value, Single, Elements, Beneath, Members, Held, storedKind}

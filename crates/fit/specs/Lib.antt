@@ -3,3 +3,4 @@ pub mod Shape
 pub mod Check
 pub mod Demand3
 pub mod Walk
+pub mod Flat

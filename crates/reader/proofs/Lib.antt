@@ -6,4 +6,4 @@ pub mod StructureSteps
 pub mod UnionSteps
 pub mod NestedSteps
 mod Rules
-mod Examples
+pub mod Examples

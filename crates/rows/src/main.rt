@@ -13,7 +13,9 @@ const WORDS: usize = 8192;
 fn say(s: &[u8]) {
     let mut table = [0u64; WORDS];
     match read_case(s, &mut table) {
-        Reply::Given(a) => cases::lines::answer(a, &table),
+        Reply::Given(a) => {
+            cases::lines::answer(a, &table);
+        }
         Reply::Wrong => {
             io::write_all(STDOUT_FILENO, b"input\n");
         }

@@ -1,95 +1,110 @@
--- DEMAND 3 OF THE CALL: a message of a type that the check passes. The statement cites only definitions of `specs/`. Assumes nothing.
-use Prim.Native.Nat.{ℕ}
+-- DEMAND 3 OF THE CALLS: a message, or data, of a type that the check passes. The statements cite only definitions of `specs/`. Assumes nothing.
+use Prim.Native.Nat.{ℕ, _%_, _<_}
 use mathlib.Core.Path.{_≡_, refl, sym, _∙_}
 use mathlib.Core.Bool.{Bool, true, false}
 use mathlib.Core.List.{List}
 use native.Mathlib.Omega.{arith}
 use lib.Dec.{leb, ltb}
-use lib.ListN.{length, getD, drop}
+use lib.ListN.{length, getD, drop, length-drop}
 use borrow.Author.Tests.{ltb-true, lt-leb}
 use Rattle.wire.specs.declared.settings.Representation.{Representation}
 use Rattle.wire.specs.declared.settings.Representation.the-variants.{Known, Unknown}
 use Rattle.wire.specs.Identifier.{settingsOf}
-use Rattle.book.specs.Types.{typesOf, typeCount}
+use Rattle.book.specs.Types.{BookType, typesOf, typeCount}
 use Rattle.book.proofs.Good.{length-types}
-use Rattle.table.specs.declared.out.Refusal.{Refusal}
-use Rattle.table.specs.declared.out.Refusal.the-variants as refusal
-use Rattle.table.specs.Outcome.{Outcome, read, short, refused, numberOf, refusalNumber, rowsOf}
-use Rattle.reader.specs.Nested.{reading}
 use Rattle.fit.specs.Check.{checkOf}
-use Rattle.fit.specs.Demand3.{Checked, fit, bad-book, bad-root, unfit, too-few-bytes, invalid-data}
+use Rattle.fit.specs.Demand3.{Checked, fit, bad-book, bad-root, unfit, finished-reading, too-few-bytes, invalid-data, full-table, absent-discriminator}
 use Rattle.fit.proofs.Demand3.{check-says, demand-3}
 use Rattle.sinotayam.specs.declared.answer.Number.{Number}
-use Rattle.sinotayam.specs.declared.answer.Number.the-variants.{Read, NotEnoughData, InvalidData, TooLong}
-use Rattle.table.specs.Rows.{capacity}
+use Rattle.sinotayam.specs.declared.answer.Number.the-variants.{NotEnoughData, InvalidData, BadRoot, TooLong}
 use Rattle.sinotayam.specs.declared.answer.Answer.{Answer}
-use Rattle.sinotayam.specs.Answer.{Result, codeOf, refusalOf, refusedBy, resultOf, Settled}
-use Rattle.sinotayam.specs.Entry.{refusedIf, byIdentifier, messageBy, withBook, readOf}
-use Rattle.sinotayam.specs.Demand3.{ToldOf, told, over-limit, Safe, SafeCall}
+use Rattle.sinotayam.specs.Answer.{Result, codeOf, refusedBy, resultOf, Settled, Returned}
+use Rattle.sinotayam.specs.Entry.{refusedIf, byIdentifier, messageBy, dataBy, withBook, readOf, readDataOf}
+use Rattle.sinotayam.specs.Prepared.{prepareOf, preparedFrom, readPrepared, readDataPrepared}
+use Rattle.sinotayam.specs.Demand3.{ToldOf, told, over-limit, Safe, SafeCall, SafeWord}
+use Rattle.sinotayam.proofs.Preparing.{prepared-same}
 
--- a reading's number and rows are the call's
-same-code : (o : Outcome) → codeOf (resultOf o .number) ≡ numberOf o
-unfolding codeOf resultOf refusalOf numberOf refusalNumber
-same-code (read c rs) = refl
-same-code (short x) = refl
-same-code (refused refusal.InvalidData) = refl
-same-code (refused refusal.InvalidType) = refl
-same-code (refused refusal.Unsupported) = refl
-same-code (refused refusal.TooDeep) = refl
-same-code (refused refusal.NoRoom) = refl
-same-code (refused refusal.NoDiscriminator) = refl
-
-same-rows : (o : Outcome) → resultOf o .rows ≡ rowsOf o
-unfolding resultOf rowsOf
-same-rows (read c rs) = refl
-same-rows (short x) = refl
-same-rows (refused k) = refl
-
-read-is-0 : (n : Number) → n ≡ Read → codeOf n ≡ 0
-unfolding codeOf
-read-is-0 n e = rw e
-
-module _ (book message : List ℕ) (root : ℕ) where
+module _ (book s : List ℕ) (root : ℕ) where
   -- what is refused before the reading begins
-  before : (n : Number) → ToldOf message (codeOf n) → (n ≡ Read → ⊥) → Safe book message root (refusedBy n)
+  before : (n : Number) → ToldOf s (codeOf n) → (codeOf n ≡ 0 → ⊥) → Safe book s root (refusedBy n)
   before n t f = record { number = t; rows = λ e. absurd (f e) }
 
-  by-refused : (t : Bool) (n : Number) (next : Result) → (t ≡ true → Safe book message root (refusedBy n)) → (t ≡ false → Safe book message root next) → Safe book message root (refusedIf t n next)
+  by-refused : (t : Bool) (n : Number) (next : Result) → (t ≡ true → Safe book s root (refusedBy n)) → (t ≡ false → Safe book s root next) → Safe book s root (refusedIf t n next)
   unfolding refusedIf
   by-refused true n next p q = p refl
   by-refused false n next p q = q refl
 
-  identified : (room : ℕ) (r : Representation) → checkOf book root ≡ 0 → Safe book message root (byIdentifier (typesOf book) root (drop 4 message) room r)
-  unfolding byIdentifier codeOf
-  identified room Unknown e = before InvalidData (told invalid-data) (λ z. let q : _≡_ {A = ℕ} 0 1 = cc in omega arith)
+  too-long : (t : Bool) (next : Result) → (t ≡ true → 65532 < length s) → Safe book s root next → Safe book s root (refusedIf t TooLong next)
+  unfolding codeOf
+  too-long t next long rest = by-refused t TooLong next (λ e. before TooLong (over-limit (long e)) (λ z. omega arith)) (λ e. rest)
+
+  identified : (room : ℕ) (r : Representation) → checkOf book root ≡ 0 → Safe book s root (byIdentifier (typesOf book) root s room r)
+  unfolding byIdentifier codeOf resultOf
+  identified room Unknown e = before InvalidData (told invalid-data) (λ z. omega arith)
   identified room (Known set) e =
-      let o = reading (typesOf book) (drop 4 message) set root room in
-      let u = demand-3 book (drop 4 message) set root room e in
-      record { number = rw (same-code o) (told (u .number)); rows = λ z. rw (same-rows o) (u .rows (sym (same-code o) ∙ read-is-0 (resultOf o .number) z)) }
+      let u = demand-3 book s set root room e in
+      record { number = told (u .number); rows = u .rows }
 
-  taken : (room n : ℕ) → Checked book root n → n ≡ 0 → checkOf book root ≡ 0 → Safe book message root (readOf book root message room)
-  unfolding withBook messageBy codeOf refusedIf
-  taken room n (fit good low p) z e =
+  -- a type that the check passes is one of a good book
+  taken : (next : List BookType → Result) (n : ℕ) → Checked book root n → n ≡ 0 → Safe book s root (next (typesOf book)) → Safe book s root (withBook book (λ types. refusedIf (leb (length types) root) BadRoot (next types)))
+  unfolding withBook refusedIf
+  taken next n (fit good low p) z safe =
       let out : leb (length (typesOf book)) root ≡ false = rw (length-types book) (lt-leb (typeCount book) root low) in
-      rw (good, out)
-      (by-refused (ltb 65536 (length message)) TooLong _ (λ long. before TooLong (over-limit (ltb-true 65536 (length message) long)) (λ z. let q : _≡_ {A = ℕ} 0 1 = cc in omega arith)) (λ fine.
-      by-refused (ltb (length message) 4) NotEnoughData _ (λ short. before NotEnoughData (told too-few-bytes) (λ z. let q : _≡_ {A = ℕ} 0 1 = cc in omega arith)) (λ enough.
-      identified room (settingsOf (getD message 0 0) (getD message 1 0)) e)))
-  taken room n (bad-book bad) z e = absurd (omega arith)
-  taken room n (bad-root good out) z e = absurd (omega arith)
-  taken room n (unfit good low p) z e = absurd (omega arith)
+      rw (good, out) safe
+  taken next n (bad-book bad) z safe = absurd (omega arith)
+  taken next n (bad-root good out) z safe = absurd (omega arith)
+  taken next n (unfit good low p) z safe = absurd (omega arith)
 
--- for every book and root that the check passes, every message and every room
-pub message-demand-3 : (book message : List ℕ) (root room : ℕ) → checkOf book root ≡ 0 → Safe book message root (readOf book root message room)
-message-demand-3 book message root room e = taken book message root room (checkOf book root) (check-says book root) e e
+-- FOR EVERY BOOK AND ROOT THAT THE CHECK PASSES, and every room
+module _ (book : List ℕ) (root room : ℕ) (passes : checkOf book root ≡ 0) where
+  -- every message: its data is what stands after the four-byte header
+  pub message-demand-3 : (message : List ℕ) → Safe book (drop 4 message) root (readOf book root message room)
+  unfolding messageBy codeOf
+  message-demand-3 message =
+      let s = drop 4 message in
+      let long : ltb 65536 (length message) ≡ true → 65532 < length (drop 4 message) = λ e. simp length-drop (omega (arith, ltb-true 65536 (length message) e)) in
+      taken book s root _ (checkOf book root) (check-says book root) passes
+      (too-long book s root (ltb 65536 (length message)) _ long
+      (by-refused book s root (ltb (length message) 4) NotEnoughData _ (λ e. before book s root NotEnoughData (told too-few-bytes) (λ z. omega arith)) (λ e.
+      identified book s root room (settingsOf (getD message 0 0) (getD message 1 0)) passes)))
 
--- and of the call itself: its promise is `Settled`
-pub call-demand-3 : (book message : List ℕ) (root : ℕ) (before after : List ℕ) (r : Answer) → checkOf book root ≡ 0
-    → Settled (readOf book root message (capacity before)) before after r → SafeCall book message root before after r
-call-demand-3 book message root before after r e d =
-    let w = readOf book root message (capacity before) in
-    let safe = message-demand-3 book message root (capacity before) e in
+  -- all data
+  pub data-demand-3 : (id s : List ℕ) → Safe book s root (readDataOf book root id s room)
+  unfolding dataBy
+  data-demand-3 id s =
+      taken book s root _ (checkOf book root) (check-says book root) passes
+      (too-long book s root (ltb 65532 (length s)) _ (λ e. ltb-true 65532 (length s) e)
+      (identified book s root room (settingsOf (getD id 0 0) (getD id 1 0)) passes))
+
+  -- and with the index that `prepare` leaves where it says 0
+  module _ (lent : List ℕ) (said : prepareOf book lent ≡ 0) where
+    pub prepared-demand-3 : (message : List ℕ) → Safe book (drop 4 message) root (readPrepared book (preparedFrom book lent) root message room)
+    prepared-demand-3 message = rw (prepared-same book lent (λ types. messageBy types root message room) said) (message-demand-3 message)
+
+    pub data-prepared-demand-3 : (id s : List ℕ) → Safe book s root (readDataPrepared book (preparedFrom book lent) root id s room)
+    data-prepared-demand-3 id s = rw (prepared-same book lent (λ types. dataBy types root id s room) said) (data-demand-3 id s)
+
+-- AND OF THE CALLS THEMSELVES, by what they promise: `Settled`, and `Returned` for C
+pub call-demand-3 : (book s : List ℕ) (root : ℕ) (w : Result) (before after : List ℕ) (r : Answer) → Safe book s root w → Settled w before after r → SafeCall book s root before after r
+call-demand-3 book s root w before after r safe d =
     record {
       number = rw (d .number) (safe .number);
       rows = λ z. (w .rows, safe .rows (sym (d .number) ∙ z), d .count, d .table);
+    }
+
+small : {s : List ℕ} {n : ℕ} → ToldOf s n → n < 256
+small (told finished-reading) = omega arith
+small (told too-few-bytes) = omega arith
+small (told invalid-data) = omega arith
+small (told full-table) = omega arith
+small (told absent-discriminator) = omega arith
+small (over-limit h) = omega arith
+
+pub word-demand-3 : (book s : List ℕ) (root : ℕ) (w : Result) (before after : List ℕ) (r : ℕ) → Safe book s root w → Returned w before after r → SafeWord book s root before after r
+word-demand-3 book s root w before after r safe d =
+    let k : w .number < 256 = small (safe .number) in
+    let n : r % 256 ≡ w .number = omega (arith, d .word) in
+    record {
+      number = rw n (safe .number);
+      rows = λ z. (w .rows, safe .rows (sym n ∙ z), omega (arith, d .word), d .table);
     }

@@ -1,9 +1,8 @@
 -- Laws of the entry points, one for each answer, in document 01's order of refusals. Assumes nothing.
 use mathlib.Core.Path.{_≡_, refl, sym, ap, _∙_}
 use mathlib.Core.List.{List, [], _∷_}
-use Prim.Native.Nat.{ℕ, suc, _+_, _-_, _≤_, _<_}
+use Prim.Native.Nat.{ℕ, suc, _-_, _≤_, _<_}
 use native.Mathlib.Omega.{arith}
-use lib.Dec.{leb, ltb}
 use lib.ListN.{length, getD, take, drop, length-drop}
 use lib.Seq.{take-all}
 use borrow.Author.Tests.{le-leb, lt-leb, le-ltb, lt-ltb}
@@ -16,7 +15,7 @@ use Rattle.book.specs.Places.{typesBy}
 use Rattle.reader.specs.Nested.{reading}
 use Rattle.sinotayam.specs.declared.answer.Number.the-variants.{NotEnoughData, InvalidData, BadRoot, TooLong}
 use Rattle.sinotayam.specs.declared.answer.Answer.{Answer}
-use Rattle.sinotayam.specs.Answer.{Result, refusedBy, resultOf, Settled}
+use Rattle.sinotayam.specs.Answer.{refusedBy, resultOf, Settled}
 use Rattle.sinotayam.specs.Entry.{refusedIf, byIdentifier, messageBy, dataBy}
 use Rattle.sinotayam.proofs.Settling.{settled-same}
 

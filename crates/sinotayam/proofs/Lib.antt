@@ -3,4 +3,7 @@ pub mod Entries
 pub mod Preparing
 pub mod Spans
 pub mod Packing
+pub mod OneOutcome
 pub mod Demand3
+pub mod TextRows
+mod Examples

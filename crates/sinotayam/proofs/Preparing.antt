@@ -2,16 +2,14 @@
 use mathlib.Core.Path.{_≡_, refl, sym, ap, _∙_}
 use mathlib.Core.Bool.{Bool, true, false, not}
 use mathlib.Core.List.{List, [], _∷_, _++_, append-nil}
-use Prim.Native.Nat.{ℕ, zero, suc, _+_, _-_, _≤_, _<_, min}
+use Prim.Native.Nat.{ℕ, zero, suc, _+_, _-_, _≤_, _<_}
 use native.Mathlib.Omega.{arith}
-use lib.Dec.{eqb, ltb}
 use native.Mathlib.Nat.{le-refl}
 use lib.ListN.{length, getD, take, drop, set, length-take, length-drop, drop-of-length-le}
 use lib.Seq.{take-at, take-length, getD-set-same}
 use borrow.Rule.Slice.PartMut.{putMid}
 use borrow.Author.Tests.{le-ltb, lt-ltb, eq-eqb, ne-eqb, not-true, not-false}
-use Rattle.ground.specs.Choice.{both}
-use Rattle.book.specs.Types.{BookType, typeCount, typesOf, typesFrom}
+use Rattle.book.specs.Types.{BookType, typeCount, typesOf}
 use Rattle.book.specs.Places.{from, placesFrom, indexCount, indexed, typesBy}
 use Rattle.book.specs.Rules.{bookOk}
 use Rattle.book.proofs.Indexing.{places-spell, length-places}
@@ -19,7 +17,7 @@ use Rattle.book.proofs.Good.{count-good}
 use Rattle.sinotayam.specs.declared.answer.Number.{Number}
 use Rattle.sinotayam.specs.declared.answer.Number.the-variants.{Read, BadBook, NoRoom}
 use Rattle.sinotayam.specs.declared.answer.Answer.{Answer}
-use Rattle.sinotayam.specs.Answer.{Result, refusedBy, Settled}
+use Rattle.sinotayam.specs.Answer.{codeOf, Result, refusedBy, Settled}
 use Rattle.sinotayam.specs.Entry.{refusedIf, withBook}
 use Rattle.sinotayam.specs.Prepared.{hasPlaces, prepareOf, preparedFrom, placesIn, withIndex}
 use Rattle.sinotayam.proofs.Settling.{settled-same}
@@ -43,9 +41,9 @@ module _ (b lent : List ℕ) (f : Bool) (is : f ≡ bookOk b) where
   broken : not f ≡ true → bookOk b ≡ false
   broken e = sym is ∙ not-true f e
 
-  pub prepare-bad : (r : Number) → not f ≡ true → r ≡ BadBook → r ≡ prepareOf b lent
-  unfolding prepareOf
-  prepare-bad r e g = rw (broken e) g
+  pub prepare-bad : (r : Number) → not f ≡ true → r ≡ BadBook → codeOf r ≡ prepareOf b lent
+  unfolding prepareOf codeOf
+  prepare-bad r e g = rw (broken e, g)
 
   pub index-bad : (u : List ℕ) → not f ≡ true → u ≡ set lent 0 0 → u ≡ preparedFrom b lent
   unfolding preparedFrom
@@ -55,17 +53,17 @@ module _ (b lent : List ℕ) (f : Bool) (is : f ≡ bookOk b) where
   kept : not f ≡ false → bookOk b ≡ true
   kept e = sym is ∙ not-false f e
 
-  pub prepare-short : (r : Number) (n : ℕ) → not f ≡ false → n ≡ typeCount b → length lent ≤ n → r ≡ NoRoom → r ≡ prepareOf b lent
-  unfolding prepareOf hasPlaces
-  prepare-short r n e g h k = rw (kept e, le-ltb (typeCount b) (length lent) (omega arith)) k
+  pub prepare-short : (r : Number) (n : ℕ) → not f ≡ false → n ≡ typeCount b → length lent ≤ n → r ≡ NoRoom → codeOf r ≡ prepareOf b lent
+  unfolding prepareOf hasPlaces codeOf
+  prepare-short r n e g h k = rw (kept e, le-ltb (typeCount b) (length lent) (omega arith), k)
 
   pub index-short : (u : List ℕ) (n : ℕ) → not f ≡ false → n ≡ typeCount b → length lent ≤ n → u ≡ set lent 0 0 → u ≡ preparedFrom b lent
   unfolding preparedFrom hasPlaces
   index-short u n e g h k = rw (kept e, le-ltb (typeCount b) (length lent) (omega arith)) k
 
   -- an index with all places
-  pub prepare-good : (n : ℕ) → not f ≡ false → n ≡ typeCount b → n < length lent → Read ≡ prepareOf b lent
-  unfolding prepareOf hasPlaces
+  pub prepare-good : (n : ℕ) → not f ≡ false → n ≡ typeCount b → n < length lent → codeOf Read ≡ prepareOf b lent
+  unfolding prepareOf hasPlaces codeOf
   prepare-good n e g h = rw (kept e, lt-ltb (typeCount b) (length lent) (omega arith))
 
   pub index-good : (n : ℕ) (ys : List ℕ) → not f ≡ false → n ≡ typeCount b → n < length lent → ys ≡ indexed b (take (length lent - 1) (drop 1 lent)) → set (putMid 1 (length lent - 1) lent ys) 0 n ≡ preparedFrom b lent
@@ -111,28 +109,40 @@ module _ (b index : List ℕ) (next : List BookType → Result) (n : ℕ) (is : 
       settled-same (rw (ne-eqb (length (placesIn index)) 0 (λ (z : length (placesIn index) ≡ 0). h (is ∙ z))))
       (rw (places-part index n is) at d)
 
--- PREPARED READING IS READING: with what `prepare` leaves of a book in an index of 65 words or more
-module _ (b lent : List ℕ) (next : List BookType → Result) (long : 64 < length lent) where
-  same-bad : bookOk b ≡ false → withIndex b (preparedFrom b lent) next ≡ withBook b next
+-- PREPARED READING IS READING
+module _ (b lent : List ℕ) (next : List BookType → Result) where
+  same-bad : bookOk b ≡ false → 0 < length lent → withIndex b (preparedFrom b lent) next ≡ withBook b next
   unfolding withIndex withBook preparedFrom placesIn refusedIf
-  same-bad e =
-      let z : getD (set lent 0 0) 0 0 ≡ 0 = getD-set-same lent 0 0 0 (omega arith) in
+  same-bad e long =
+      let z : getD (set lent 0 0) 0 0 ≡ 0 = getD-set-same lent 0 0 0 long in
       rw (e, z)
 
-  same-good : bookOk b ≡ true → withIndex b (preparedFrom b lent) next ≡ withBook b next
-  unfolding withIndex withBook preparedFrom hasPlaces placesIn refusedIf typesOf from
-  same-good e =
-      let few : (1 ≤ typeCount b) × (typeCount b ≤ 64) = count-good b e in
+  same-good : bookOk b ≡ true → hasPlaces b lent ≡ true → withIndex b (preparedFrom b lent) next ≡ withBook b next
+  unfolding withIndex withBook preparedFrom placesIn refusedIf typesOf from
+  same-good e h =
+      let few : 1 ≤ typeCount b = count-good b e .0 in
       let k : take (typeCount b) (placesFrom b 7 (typeCount b) ++ drop (suc (typeCount b)) lent) ≡ placesFrom b 7 (typeCount b) = take-at (placesFrom b 7 (typeCount b)) (drop (suc (typeCount b)) lent) (typeCount b) (length-places b 7 (typeCount b)) in
-      rw (e, lt-ltb (typeCount b) (length lent) (omega arith), k, length-places b 7 (typeCount b), ne-eqb (typeCount b) 0 (omega arith))
+      rw (e, h, k, length-places b 7 (typeCount b), ne-eqb (typeCount b) 0 (omega arith))
       (ap next (places-spell b 7 (typeCount b)))
 
-  pub prepared-same : withIndex b (preparedFrom b lent) next ≡ withBook b next
-  prepared-same = by-book (bookOk b) refl
+  -- with what `prepare` leaves where it says 0
+  pub prepared-same : prepareOf b lent ≡ 0 → withIndex b (preparedFrom b lent) next ≡ withBook b next
+  unfolding prepareOf
+  prepared-same said = by-book (bookOk b) refl (hasPlaces b lent) refl
+    where
+      by-book : (f : Bool) → bookOk b ≡ f → (g : Bool) → hasPlaces b lent ≡ g → withIndex b (preparedFrom b lent) next ≡ withBook b next
+      by-book true e true h = same-good e h
+      by-book true e false h = let z : _≡_ {A = ℕ} 13 0 = rw (e, h) at said in absurd (omega arith)
+      by-book false e g h = let z : _≡_ {A = ℕ} 8 0 = rw e at said in absurd (omega arith)
+
+  -- and with what it leaves of any book in an index of 65 words or more
+  prepared-long : 64 < length lent → withIndex b (preparedFrom b lent) next ≡ withBook b next
+  unfolding hasPlaces
+  prepared-long long = by-book (bookOk b) refl
     where
       by-book : (f : Bool) → bookOk b ≡ f → withIndex b (preparedFrom b lent) next ≡ withBook b next
-      by-book true e = same-good e
-      by-book false e = same-bad e
+      by-book true e = same-good e (lt-ltb (typeCount b) (length lent) (omega (arith, count-good b e .1)))
+      by-book false e = same-bad e (omega arith)
 
 pub read-same : (b lent u : List ℕ) (next : List BookType → Result) (t v : List ℕ) (r : Answer) → 64 < length lent → u ≡ preparedFrom b lent → Settled (withIndex b u next) t v r → Settled (withBook b next) t v r
-read-same b lent u next t v r h e d = settled-same (sym (prepared-same b lent next h)) (rw e at d)
+read-same b lent u next t v r h e d = settled-same (sym (prepared-long b lent next h)) (rw e at d)

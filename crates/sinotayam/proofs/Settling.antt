@@ -1,10 +1,10 @@
 -- Laws of a settled answer: a refusal, and a whole reading after which the table is cleared. Assumes nothing.
-use mathlib.Core.Path.{_≡_, refl, sym, ap, _∙_}
-use mathlib.Core.List.{List, [], _∷_, _++_}
-use Prim.Native.Nat.{ℕ, zero, suc, _+_, _-_, _*_, _/_, _≤_, _<_}
+use mathlib.Core.Path.{_≡_, refl, ap, _∙_}
+use mathlib.Core.List.{List, _++_}
+use Prim.Native.Nat.{ℕ, _+_, _-_, _*_, _≤_}
 use native.Mathlib.Nat.{sub-zero}
 use native.Mathlib.Omega.{arith}
-use lib.ListN.{length, take, drop, replicate}
+use lib.ListN.{length, replicate}
 use Rattle.wire.specs.declared.cursor.Cursor.{Cursor}
 use Rattle.wire.specs.declared.cursor.Shortage.{Shortage}
 use Rattle.wire.specs.declared.settings.Settings.{Settings}
@@ -12,43 +12,31 @@ use Rattle.wire.specs.Place.{cursorAt}
 use Rattle.book.specs.Types.{BookType}
 use Rattle.table.specs.declared.rows.Row.{Row}
 use Rattle.table.specs.declared.out.Refusal.{Refusal}
-use Rattle.table.specs.declared.out.Refusal.the-variants as refusal
 use Rattle.table.specs.declared.out.Out.{Out}
 use Rattle.table.specs.declared.out.Out.the-variants as out
 use Rattle.table.specs.Rows.{width, words, capacity, room, clearedFrom, Filled}
-use Rattle.table.specs.Outcome.{Outcome, read, short, refused, refusalNumber, numberOf, Done}
+use Rattle.table.specs.Outcome.{Outcome, read, refused, refusalNumber, numberOf, rowsOf, Done}
 use Rattle.table.proofs.Filling.{filled-fits}
 use Rattle.table.proofs.Outcomes.{was-read, was-short, was-refused}
 use Rattle.reader.specs.Nested.{nestedAt, reading}
 use Rattle.sinotayam.specs.declared.answer.Number.{Number}
 use Rattle.sinotayam.specs.declared.answer.Number.the-variants.{Read, NotEnoughData}
 use Rattle.sinotayam.specs.declared.answer.Answer.{Answer}
-use Rattle.sinotayam.specs.Answer.{codeOf, refusalOf, Result, refusedBy, resultOf, Settled}
+use Rattle.sinotayam.specs.Answer.{codeOf, Result, refusedBy, resultOf, Settled}
 
--- the numbers of the table and those of an outcome are the same
-same-code : (k : Refusal) → codeOf (refusalOf k) ≡ refusalNumber k
-unfolding codeOf refusalOf refusalNumber
-same-code refusal.InvalidData = refl
-same-code refusal.InvalidType = refl
-same-code refusal.Unsupported = refl
-same-code refusal.TooDeep = refl
-same-code refusal.NoRoom = refl
-same-code refusal.NoDiscriminator = refl
-
-pub same-number : (o : Outcome) → codeOf (resultOf o .number) ≡ numberOf o
-unfolding codeOf resultOf numberOf
-same-number (read c rs) = refl
-same-number (short x) = refl
-same-number (refused k) = same-code k
+-- a refused reading is refused by the number that stands for its reason
+refused-as : (n : Number) (k : Refusal) → codeOf n ≡ refusalNumber k → resultOf (refused k) ≡ refusedBy n
+unfolding resultOf numberOf rowsOf
+refused-as n k e = rw e
 
 -- the same result, said in another way
 pub settled-same : {w x : Result} {t v : List ℕ} {r : Answer} → w ≡ x → Settled x t v r → Settled w t v r
 settled-same e d = rw e d
 
 -- a table as long
-pub settled-long : {n : Number} (t u : List ℕ) {v : List ℕ} {r : Answer} → length u ≡ length t → Settled (refusedBy n) u v r → Settled (refusedBy n) t v r
+pub settled-long : (n : Number) (t u : List ℕ) {v : List ℕ} {r : Answer} → length u ≡ length t → Settled (refusedBy n) u v r → Settled (refusedBy n) t v r
 unfolding words
-settled-long t u e d = record { number = d .number; count = d .count; table = rw e at (d .table) }
+settled-long n t u e d = record { number = d .number; count = d .count; table = rw e at (d .table) }
 
 pub settled-cleared : (t v : List ℕ) (n : Number) → v ≡ clearedFrom (width * 0) t → Settled (refusedBy n) t v (record { number = n; rows = 0 })
 unfolding words
@@ -56,7 +44,7 @@ settled-cleared t v n f = record { number = refl; count = refl; table = f }
 
 -- over rows that are a variable: `rw` cannot rewrite m inside `(was-read h q) .new`, which is made from m
 settled-rows : (o : Outcome) (t u v : List ℕ) (e : Cursor) (m : ℕ) (rs : List Row) → o ≡ read e rs → m ≡ 0 + length rs → Filled t u 0 rs → v ≡ clearedFrom (width * m) u → Settled (resultOf o) t v (record { number = Read; rows = m })
-unfolding resultOf
+unfolding resultOf numberOf rowsOf codeOf
 settled-rows o t u v e m rs p q f g =
     let k : m ≡ length rs = omega arith in
     record {
@@ -80,13 +68,12 @@ module _ (types : List BookType) (s : List ℕ) (set : Settings) (root : ℕ) (t
   whole-read e m v q f = let w = was-read h q in settled-rows _ t u v e m (w .new) (is-reading ∙ w .is) (w .count) (w .filled) f
 
   pub whole-short : (x : Shortage) (v : List ℕ) (a : Answer) → r ≡ out.Short x → Settled (refusedBy NotEnoughData) u v a → Settled (resultOf (reading types s set root (capacity t))) t v a
-  unfolding resultOf
+  unfolding resultOf numberOf rowsOf codeOf
   whole-short x v a q d =
       let w = was-short h q in
-      settled-same (ap resultOf (is-reading ∙ w .is)) (settled-long t u (w .filled .long) d)
+      settled-same (ap resultOf (is-reading ∙ w .is)) (settled-long NotEnoughData t u (w .filled .long) d)
 
-  pub whole-refused : (k : Refusal) (n : Number) (v : List ℕ) (a : Answer) → r ≡ out.Refused k → n ≡ refusalOf k → Settled (refusedBy n) u v a → Settled (resultOf (reading types s set root (capacity t))) t v a
-  unfolding resultOf
+  pub whole-refused : (k : Refusal) (n : Number) (v : List ℕ) (a : Answer) → r ≡ out.Refused k → codeOf n ≡ refusalNumber k → Settled (refusedBy n) u v a → Settled (resultOf (reading types s set root (capacity t))) t v a
   whole-refused k n v a q f d =
       let w = was-refused h q in
-      settled-same (ap resultOf (is-reading ∙ w .is) ∙ ap refusedBy (sym f)) (settled-long t u (w .filled .long) d)
+      settled-same (ap resultOf (is-reading ∙ w .is) ∙ refused-as n k f) (settled-long n t u (w .filled .long) d)

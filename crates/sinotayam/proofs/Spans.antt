@@ -8,15 +8,15 @@ use native.Mathlib.Omega.{arith}
 use mir.Syntax.{w64}
 use mir.Val.{Fits}
 use lib.Dec.{eqb, leb}
-use lib.ListN.{length, take, drop}
-use borrow.Author.Tests.{le-leb, lt-leb, leb-true, eq-eqb, ne-eqb, eqb-true, not-true, not-false}
+use lib.ListN.{take, drop}
+use borrow.Author.Tests.{le-leb, lt-leb, leb-true, ne-eqb, not-true, not-false}
 use Rattle.ground.specs.Choice.{pick, both, among}
 use Rattle.ground.proofs.Tests.{both-false}
 use Rattle.table.specs.declared.rows.Row.{Row}
-use Rattle.sinotayam.specs.declared.answer.Number.{Number}
 use Rattle.sinotayam.specs.declared.answer.Number.the-variants.{Read, NotText}
 use Rattle.sinotayam.specs.declared.texts.Span.{Span}
 use Rattle.sinotayam.specs.declared.texts.Span.the-variants.{At, Nothing}
+use Rattle.sinotayam.specs.Answer.{codeOf}
 use Rattle.sinotayam.specs.Text.{textBytes, spanOf, partAt, numberAt}
 
 either : (a b : Bool) → (a || (b || false)) ≡ (a || b)
@@ -109,10 +109,10 @@ module _ (s : List ℕ) (x y : Span) (is : x ≡ y) where
   part-none e = ap (partAt s) (sym e ∙ is)
 
 module _ (x y : Span) (is : x ≡ y) where
-  pub number-at : (start n : ℕ) → x ≡ At start n → Read ≡ numberAt y
-  unfolding numberAt
+  pub number-at : (start n : ℕ) → x ≡ At start n → codeOf Read ≡ numberAt y
+  unfolding numberAt codeOf
   number-at start n e = ap numberAt (sym e ∙ is)
 
-  pub number-none : x ≡ Nothing → NotText ≡ numberAt y
-  unfolding numberAt
+  pub number-none : x ≡ Nothing → codeOf NotText ≡ numberAt y
+  unfolding numberAt codeOf
   number-none e = ap numberAt (sym e ∙ is)

@@ -4,10 +4,8 @@ use mathlib.Core.Path.{_≡_}
 use mathlib.Core.List.{List, [], _++_}
 use lib.ListN.{length, replicate}
 use Rattle.table.specs.declared.rows.Row.{Row}
-use Rattle.table.specs.declared.out.Refusal.{Refusal}
-use Rattle.table.specs.declared.out.Refusal.the-variants as refusal
 use Rattle.table.specs.Rows.{width, words}
-use Rattle.table.specs.Outcome.{Outcome, read, short, refused}
+use Rattle.table.specs.Outcome.{Outcome, numberOf, rowsOf}
 use Rattle.sinotayam.specs.declared.answer.Number.{Number}
 use Rattle.sinotayam.specs.declared.answer.Number.the-variants.{Read, NotEnoughData, InvalidData, InvalidType, PidNotFound, BadBook, BadRoot, TooLong, Unsupported, TooDeep, NoRoom, NoDiscriminator, NotText, Unfit}
 use Rattle.sinotayam.specs.declared.answer.Answer.{Answer}
@@ -29,31 +27,18 @@ codeOf NoDiscriminator = 14
 codeOf NotText = 15
 codeOf Unfit = 16
 
--- why a value was refused, as one of these numbers
-unfoldable pub refusalOf : Refusal → Number
-refusalOf refusal.InvalidData = InvalidData
-refusalOf refusal.InvalidType = InvalidType
-refusalOf refusal.Unsupported = Unsupported
-refusalOf refusal.TooDeep = TooDeep
-refusalOf refusal.NoRoom = NoRoom
-refusalOf refusal.NoDiscriminator = NoDiscriminator
-
--- what a call comes to
+-- what a call comes to: document 01's number, and the rows
 pub record Result : Type 0 where
-  pub number : Number
+  pub number : ℕ
   pub rows : List Row
-
-abbrev pub finished : List Row → Result
-finished rs = record { number = Read; rows = rs }
 
 -- "Every refused reading returns 0 rows"
 abbrev pub refusedBy : Number → Result
-refusedBy n = record { number = n; rows = [] }
+refusedBy n = record { number = codeOf n; rows = [] }
 
+-- a reading's own number and rows
 unfoldable pub resultOf : Outcome → Result
-resultOf (read c rs) = finished rs
-resultOf (short x) = refusedBy NotEnoughData
-resultOf (refused k) = refusedBy (refusalOf k)
+resultOf o = record { number = numberOf o; rows = rowsOf o }
 
 -- these rows, and zeros after them to the table's end.
 -- "Every refused reading returns 0 rows and the whole table zero. A finished one leaves zero after its last row."
@@ -62,13 +47,13 @@ tableOf lent rs = words rs ++ replicate (length lent - width * length rs) 0
 
 -- the number, the count of rows, and every word of the lent table
 pub record Settled (w : Result) (before after : List ℕ) (r : Answer) : Type 0 where
-  pub number : r .number ≡ w .number
+  pub number : codeOf (r .number) ≡ w .number
   pub count : r .rows ≡ length (w .rows)
   pub table : after ≡ tableOf before (w .rows)
 
 -- the number and the count in one word: rows * 256 + number. The count has 56 bits there; more rows would be 2 ^ 61 bytes of table
-abbrev pub packed : Number → ℕ → ℕ
-packed number rows = rows % 2 ^ 56 * 256 + codeOf number
+abbrev pub packed : ℕ → ℕ → ℕ
+packed number rows = rows % 2 ^ 56 * 256 + number
 
 -- the word, and every word of the lent table
 pub record Returned (w : Result) (before after : List ℕ) (r : ℕ) : Type 0 where

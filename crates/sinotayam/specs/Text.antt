@@ -1,15 +1,12 @@
 -- The text call. "The text call takes table, row number, data: for a row of kind 16 or 17 inside the table whose place is inside the data, it
 -- hands back that very part of the data (twice b bytes for 17); else an empty part. A companion call on the same three tells which: 0 or 15."
 use Prim.Native.Nat.{ℕ, _+_}
-use mathlib.Core.Bool.{Bool}
 use mathlib.Core.List.{List, [], _∷_}
 use lib.Dec.{eqb, leb}
 use lib.ListN.{length, take, drop}
 use Rattle.ground.specs.Choice.{pick, both, among}
 use Rattle.table.specs.declared.rows.Row.{Row}
 use Rattle.table.specs.Rows.{rowAt}
-use Rattle.sinotayam.specs.declared.answer.Number.{Number}
-use Rattle.sinotayam.specs.declared.answer.Number.the-variants.{Read, NotText}
 use Rattle.sinotayam.specs.declared.texts.Span.{Span}
 use Rattle.sinotayam.specs.declared.texts.Span.the-variants.{At, Nothing}
 
@@ -25,9 +22,10 @@ unfoldable pub partAt : List ℕ → Span → List ℕ
 partAt s (At start n) = take n (drop start s)
 partAt s Nothing = []
 
-unfoldable pub numberAt : Span → Number
-numberAt (At start n) = Read
-numberAt Nothing = NotText
+-- "A companion call .. tells which: 0 or 15."
+unfoldable pub numberAt : Span → ℕ
+numberAt (At start n) = 0
+numberAt Nothing = 15
 
 -- a row outside the table is all 0, which is no text
 abbrev pub spanIn : List ℕ → ℕ → List ℕ → Span
@@ -36,5 +34,5 @@ spanIn table row s = spanOf (rowAt table row) (length s)
 abbrev pub textOf : List ℕ → ℕ → List ℕ → List ℕ
 textOf table row s = partAt s (spanIn table row s)
 
-abbrev pub textNumber : List ℕ → ℕ → List ℕ → Number
+abbrev pub textNumber : List ℕ → ℕ → List ℕ → ℕ
 textNumber table row s = numberAt (spanIn table row s)

@@ -1,6 +1,7 @@
 // What a call gives back: a number of document 01's table, and how many rows stand in the lent table.
 ghost use mathlib.Core.Path.{_≡_};
-ghost use Rattle.sinotayam.specs.Answer.{codeOf, refusalOf, refusedBy, Settled};
+ghost use Rattle.table.specs.Outcome.{refusalNumber};
+ghost use Rattle.sinotayam.specs.Answer.{codeOf, refusedBy, Settled};
 use table::out::Refusal;
 use table::rows::clear_after;
 
@@ -51,7 +52,7 @@ impl Number {
     }
 
     pub fn of_refusal(k: Refusal) -> Number
-        ensures { λ r. ⌜ r ≡ refusalOf k ⌝ }
+        ensures { λ r. ⌜ codeOf r ≡ refusalNumber k ⌝ }
     {
         match k {
             Refusal::InvalidData => Number::InvalidData,

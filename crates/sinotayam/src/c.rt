@@ -13,7 +13,7 @@ use crate::read_prepared;
 use crate::texts::text_number;
 
 fn pack(a: Answer) -> u64
-    ensures { λ r. ⌜ r ≡ packed (a .number) (a .rows) ⌝ }
+    ensures { λ r. ⌜ r ≡ packed (codeOf (a .number)) (a .rows) ⌝ }
 {
     let number = a.number;
     let rows = a.rows as u64;
@@ -37,7 +37,7 @@ pub extern "C" fn sinotayam_check(book: &[u8], root: u16) -> u8
 
 #[no_mangle]
 pub extern "C" fn sinotayam_prepare(book: &[u8], index: &mut [u32]) -> u8
-    ensures { λ r. ⌜ (r ≡ codeOf (prepareOf (now (book .entry)) (now (index .entry)))) × (now (index .exit) ≡ preparedFrom (now (book .entry)) (now (index .entry))) ⌝ }
+    ensures { λ r. ⌜ (r ≡ prepareOf (now (book .entry)) (now (index .entry))) × (now (index .exit) ≡ preparedFrom (now (book .entry)) (now (index .entry))) ⌝ }
 {
     prepare(book, index).code()
 }
@@ -57,7 +57,7 @@ pub extern "C" fn sinotayam_read_prepared(
 
 #[no_mangle]
 pub extern "C" fn sinotayam_text(table: &[u64], row: usize, s: &[u8]) -> u8
-    ensures { λ r. ⌜ r ≡ codeOf (textNumber (now (table .entry)) row (now (s .entry))) ⌝ }
+    ensures { λ r. ⌜ r ≡ textNumber (now (table .entry)) row (now (s .entry)) ⌝ }
 {
     text_number(table, row, s).code()
 }

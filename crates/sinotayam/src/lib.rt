@@ -1,6 +1,5 @@
 // Reading a message of a book's type into value rows. Nothing is required of a book, a root, a message or a table: every input has its
 // answer, and the answer settles every word of the lent table.
-ghost use mathlib.Core.Path.{_≡_};
 ghost use Rattle.book.specs.Places.{typesBy};
 ghost use Rattle.table.specs.Rows.{capacity};
 ghost use Rattle.sinotayam.specs.Answer.{Settled};

@@ -2,6 +2,7 @@
 ghost use mathlib.Core.Path.{_≡_};
 ghost use Prim.Native.Nat.{_-_, _≤_};
 ghost use lib.ListN.{length, set};
+ghost use Rattle.sinotayam.specs.Answer.{codeOf};
 ghost use Rattle.sinotayam.specs.Prepared.{prepareOf, preparedFrom, placesIn};
 use crate::answer::Number;
 use book::index::index;
@@ -25,7 +26,7 @@ fn unprepared(lent: &mut [u32], number: Number) -> Number
 // Judges a book, and fills the lent index for `read_prepared`. A refused book, and an index that is too short, leave an index of no types,
 // with which every reading is refused.
 pub fn prepare(book: &[u8], lent: &mut [u32]) -> Number
-    ensures { λ r. ⌜ (r ≡ prepareOf (now (book .entry)) (now (lent .entry))) × (now (lent .exit) ≡ preparedFrom (now (book .entry)) (now (lent .entry))) ⌝ }
+    ensures { λ r. ⌜ (codeOf r ≡ prepareOf (now (book .entry)) (now (lent .entry))) × (now (lent .exit) ≡ preparedFrom (now (book .entry)) (now (lent .entry))) ⌝ }
 {
     if !judge(book) {
         return unprepared(lent, Number::BadBook);

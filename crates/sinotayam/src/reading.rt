@@ -1,12 +1,11 @@
 // Reading data by the places of a book's types.
-ghost use mathlib.Core.Path.{_≡_};
 ghost use lib.ListN.{getD};
 ghost use Rattle.wire.specs.Identifier.{settingsOf};
 ghost use Rattle.book.specs.Places.{typesBy};
 ghost use Rattle.reader.specs.Nested.{reading};
 ghost use Rattle.table.specs.Rows.{capacity};
 ghost use Rattle.sinotayam.specs.Answer.{resultOf, Settled};
-ghost use Rattle.sinotayam.specs.Entry.{byIdentifier, messageBy, dataBy};
+ghost use Rattle.sinotayam.specs.Entry.{byIdentifier, dataBy};
 use crate::answer::Answer;
 use crate::answer::Number;
 use crate::answer::refused;

@@ -1,6 +1,6 @@
 // The text call: the part of the data that a text row points to.
 ghost use mathlib.Core.Path.{_≡_};
-ghost use lib.ListN.{length};
+ghost use Rattle.sinotayam.specs.Answer.{codeOf};
 ghost use Rattle.sinotayam.specs.Text.{spanOf, spanIn, textOf, textNumber};
 use crate::answer::Number;
 use table::rows::Row;
@@ -58,7 +58,7 @@ pub fn text<'a>(table: &[u64], row: usize, s: &'a [u8]) -> &'a [u8]
 
 // Which of the two it is: Read or NotText.
 pub fn text_number(table: &[u64], row: usize, s: &[u8]) -> Number
-    ensures { λ r. ⌜ r ≡ textNumber (now (table .entry)) row (now (s .entry)) ⌝ }
+    ensures { λ r. ⌜ codeOf r ≡ textNumber (now (table .entry)) row (now (s .entry)) ⌝ }
 {
     match span_in(table, row, s) {
         Span::At(_, _) => Number::Read,

@@ -20,7 +20,7 @@ pub data Outcome : Type 0 where
   short : Shortage → Outcome
   refused : Refusal → Outcome
 
--- "Numbers given back"
+-- "Numbers given back"; the calls' own numbers are `codeOf` of crates/sinotayam/specs/Answer.antt, proved to be these
 unfoldable pub refusalNumber : Refusal → ℕ
 refusalNumber InvalidData = 2
 refusalNumber InvalidType = 3

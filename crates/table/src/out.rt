@@ -1,6 +1,4 @@
 // What reading a value comes to.
-ghost use mathlib.Core.Path.{_≡_};
-ghost use Rattle.table.specs.Outcome.{refusalNumber};
 use wire::cursor::Cursor;
 use wire::cursor::Shortage;
 
@@ -19,19 +17,4 @@ pub enum Out {
     Read(Cursor, usize),
     Short(Shortage),
     Refused(Refusal),
-}
-
-impl Refusal {
-    pub fn number(self) -> u8
-        ensures { λ r. ⌜ r ≡ refusalNumber self ⌝ }
-    {
-        match self {
-            Refusal::InvalidData => 2,
-            Refusal::InvalidType => 3,
-            Refusal::Unsupported => 11,
-            Refusal::TooDeep => 12,
-            Refusal::NoRoom => 13,
-            Refusal::NoDiscriminator => 14,
-        }
-    }
 }

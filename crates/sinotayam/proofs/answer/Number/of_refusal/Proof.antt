@@ -1,4 +1,5 @@
-use Rattle.sinotayam.specs.Answer.{refusalOf}
+use Rattle.table.specs.Outcome.{refusalNumber}
+use Rattle.sinotayam.specs.Answer.{codeOf}
 use borrow.Author.Needs.{needs}
 use Rattle.sinotayam.proofs.answer.Number.of_refusal.Statement.{statement}
 use Rattle.sinotayam.proofs.answer.Number.of_refusal.Tie as tie
@@ -22,27 +23,27 @@ enum-told-6 : tie.Need-enum-told-6
 enum-told-6 c = search needs
 
 returns : tie.Need-returns
-unfolding refusalOf
+unfolding codeOf refusalNumber
 returns c = rw (c .enum-told .given .1)
 
 returns-2 : tie.Need-returns-2
-unfolding refusalOf
+unfolding codeOf refusalNumber
 returns-2 c = rw (c .enum-told2 .given .1)
 
 returns-3 : tie.Need-returns-3
-unfolding refusalOf
+unfolding codeOf refusalNumber
 returns-3 c = rw (c .enum-told3 .given .1)
 
 returns-4 : tie.Need-returns-4
-unfolding refusalOf
+unfolding codeOf refusalNumber
 returns-4 c = rw (c .enum-told4 .given .1)
 
 returns-5 : tie.Need-returns-5
-unfolding refusalOf
+unfolding codeOf refusalNumber
 returns-5 c = rw (c .enum-told5 .given .1)
 
 returns-6 : tie.Need-returns-6
-unfolding refusalOf
+unfolding codeOf refusalNumber
 returns-6 c = rw (c .enum-told6 .given .1)
 
 pub of-refusal-spec : {M : Type 1} → statement M

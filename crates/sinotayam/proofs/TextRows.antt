@@ -1,0 +1,58 @@
+-- DEMAND 3 AND THE TEXT CALL: every text row of a finished reading is one to the text call. Assumes nothing.
+use Prim.Native.Nat.{ℕ, zero, suc, _+_, _*_, _<_}
+use mathlib.Core.Path.{_≡_, refl}
+use mathlib.Core.Bool.{Bool, true, false, _||_}
+use mathlib.Core.List.{List, [], _∷_}
+use native.Mathlib.Nat.{add-zero}
+use native.Mathlib.Omega.{arith}
+use lib.Dec.{eqb}
+use lib.ListN.{length, getD}
+use lib.Seq.{take-at}
+use borrow.Author.Tests.{le-leb, eqb-true}
+use Rattle.ground.specs.Choice.{among}
+use Rattle.book.specs.Types.{BookType}
+use Rattle.table.specs.declared.rows.Row.{Row}
+use Rattle.table.specs.Rows.{row, width, words, rowAt, Filled}
+use Rattle.table.proofs.Filling.{length-words, filled-first, filled-rest}
+use Rattle.fit.specs.Shape.{Inside, Opened}
+use Rattle.fit.specs.Flat.{RowFits}
+use Rattle.fit.proofs.Flat.{each-row}
+use Rattle.sinotayam.specs.Answer.{tableOf}
+use Rattle.sinotayam.specs.Text.{textBytes, spanOf, numberAt, textNumber}
+
+-- the rows of a finished reading are read back from the table that it leaves
+row-in : {t : List ℕ} (n : ℕ) (rs : List Row) (i : ℕ) → Filled t t n rs → i < length rs → rowAt t (n + i) ≡ getD rs i (row 0 0 0 0)
+row-in n [] i f h = absurd (omega arith)
+row-in n (r ∷ rs) zero f h = rw add-zero (filled-first f)
+row-in {t} n (r ∷ rs) (suc i) f h =
+    let e : n + suc i ≡ n + 1 + i = omega arith in
+    rw e (row-in (n + 1) rs i (filled-rest f) (omega arith))
+
+filled-table : (before : List ℕ) (rs : List Row) → Filled (tableOf before rs) (tableOf before rs) 0 rs
+filled-table before rs = record { long = refl; kept = refl; rows = take-at (words rs) _ (width * length rs) (length-words rs) }
+
+-- a text that lies inside the data
+module _ (r : Row) (s : List ℕ) where
+  eight : r .kind ≡ 16 → Inside s (r .a) (r .b) 1 → numberAt (spanOf r (length s)) ≡ 0
+  unfolding spanOf textBytes numberAt
+  eight e i = rw (e, le-leb (r .a + r .b) (length s) (omega arith))
+
+  sixteen : r .kind ≡ 17 → Inside s (r .a) (r .b) 2 → numberAt (spanOf r (length s)) ≡ 0
+  unfolding spanOf textBytes numberAt
+  sixteen e i = rw (e, le-leb (r .a + (r .b + r .b)) (length s) (omega arith))
+
+  fitting : {types : List BookType} {after : List Row} → RowFits types s r after → among (16 ∷ 17 ∷ []) (r .kind) ≡ true → numberAt (spanOf r (length s)) ≡ 0
+  fitting x = by (eqb (r .kind) 16) refl (eqb (r .kind) 17) refl
+    where
+      by : (f : Bool) → eqb (r .kind) 16 ≡ f → (g : Bool) → eqb (r .kind) 17 ≡ g → (f || (g || false)) ≡ true → numberAt (spanOf r (length s)) ≡ 0
+      by true e g k t = let z : r .kind ≡ 16 = eqb-true (r .kind) 16 e in eight z (x .text8 z)
+      by false e true k t = let z : r .kind ≡ 17 = eqb-true (r .kind) 17 k in sixteen z (x .text16 z)
+      by false e false k t = absurd (let z : _≡_ {A = ℕ} 0 1 = cc in omega arith)
+
+-- for each row of the table that a finished reading leaves
+pub texts-told : {types : List BookType} {s : List ℕ} {ty id : ℕ} {rs : List Row} → Opened types s ty id rs → (before : List ℕ) (i : ℕ) → i < length rs
+    → among (16 ∷ 17 ∷ []) (rowAt (tableOf before rs) i .kind) ≡ true → textNumber (tableOf before rs) i s ≡ 0
+texts-told {s = s} {rs = rs} o before i h t =
+    let z : 0 + i ≡ i = omega arith in
+    let e : rowAt (tableOf before rs) i ≡ getD rs i (row 0 0 0 0) = rw z at (row-in 0 rs i (filled-table before rs) h) in
+    rw e (fitting (getD rs i (row 0 0 0 0)) s (each-row o i h) (rw e at t))
