@@ -1,0 +1,100 @@
+# The building steps of compare/run, compare/sample and compare/mutants, which source this file.
+# In the environment:
+#   XTYPES       the crate's folder src/xtypes; ../shared/docs/src/src/xtypes from the repository's root if it is not set
+# They need rustc, and for the port the Rattle toolchain and, on x86-64, cc. Nothing is fetched. What is built is in target/compare.
+here=$(cd "$(dirname "${BASH_SOURCE[0]}")" && pwd -P)
+root=$(dirname "$here")
+xtypes=${XTYPES:-$root/../shared/docs/src/src/xtypes}
+[ -f "$xtypes/deserializer.rs" ] || { echo "compare: no deserializer.rs in $xtypes; set XTYPES (compare/run --help)" >&2 && exit 2; }
+out=$root/target/compare
+m=$(uname -m)
+x86=x86_64-unknown-linux-gnu
+mkdir -p "$out"
+
+# The crate's files as they are, but for the closing validation call, which document 01 leaves out; and the comparison around them.
+texts() { # DIR
+    rm -rf "$1"
+    mkdir -p "$1/xtypes"
+    cp "$here"/src/*.rs "$1/"
+    cp "$here"/stand-ins/*.rs "$xtypes"/{data_storage,dynamic_type,error}.rs "$1/xtypes/"
+    sed '/^    if !dynamic_data.validate_dynamic_data() {$/,/^    }$/d' "$xtypes/deserializer.rs" >"$1/xtypes/deserializer.rs"
+    edit=$(diff "$xtypes/deserializer.rs" "$1/xtypes/deserializer.rs" | grep '^[<>]' || :)
+    if [ "$edit" != '<     if !dynamic_data.validate_dynamic_data() {
+<         return Err(XTypesError::InvalidData);
+<     }' ]; then
+        echo "compare: the closing validation call is not where it was in $xtypes/deserializer.rs" >&2
+        exit 2
+    fi
+}
+
+# An overflow in the crate's arithmetic is a panic, and shows as a difference.
+compile() { # DIR PROGRAM WORDS
+    rustc --edition 2021 -C overflow-checks=on -A warnings "$1/main.rs" -o "$2" "${@:3}"
+}
+
+# The port's program, and in `port` the words that run it.
+build_port() { # --unproved, or nothing
+    kit=${RATTLE_KIT:-$(cd "$(dirname "$(readlink -f "$(command -v rt)")")/.." && pwd -P)}
+    tools=$kit/on/$m/toolchain
+    if [ "${1:-}" = --unproved ]; then object; else archive; fi
+}
+
+# The archive of the C interface: rt proves it first.
+archive() {
+    (cd "$root" && rt staticlib sinotayam) >"$out/rt.log" 2>&1 || { tail -n 20 "$out/rt.log"; exit 1; }
+    link "$root/target/staticlib/libsinotayam.a"
+}
+
+# The same functions as an object, from code that nothing proves: of a program that calls one, its module is kept.
+object() {
+    repo=$out/unproved
+    rm -rf "$repo"
+    mkdir -p "$repo/crates/feed/src"
+    cp -r "$root"/crates/* "$repo/crates/"
+    cp "$root/crates.txt" "$repo/"
+    echo 'feed: sinotayam io libc' >>"$repo/crates.txt"
+    cat >"$repo/crates/feed/src/main.rt" <<'END'
+fn main() {
+    let mut table = [0u64; 4];
+    io::print_decimal(1, sinotayam::c::sinotayam_read(b"", 0, b"", &mut table));
+}
+END
+    printf 8 >"$repo/crates/feed/stdout"
+    kit_that_keeps_modules "$repo/kit"
+    (cd "$repo" && RATTLE_HOME=$repo/kit rt try feed) >"$out/rt.log" 2>&1 || { tail -n 20 "$out/rt.log"; exit 1; }
+    "$tools/bin/clang" --target=$x86 -x ir "$repo/kit/module-O3.bc" -S -emit-llvm -O0 -Xclang -disable-llvm-passes -o "$repo/m.ll"
+    sed -e '/^define internal .*@"sinotayam::c::sinotayam_/s/^define internal/define/' -e 's/@"sinotayam::c::sinotayam_\([a-z_]*\)"/@unproved_\1/g' -e 's/@main(/@rattle_main(/' "$repo/m.ll" >"$repo/n.ll"
+    "$tools/bin/clang" --target=$x86 -march=x86-64 -O3 -fPIC -mllvm -trap-unreachable -mllvm -no-trap-after-noreturn -x ir -c "$repo/n.ll" -o "$repo/port.o"
+    link "$repo/port.o" -DUNPROVED
+}
+
+# A view of the kit whose clang also keeps the modules that it compiles, as DIR/module-O0.bc and DIR/module-O3.bc.
+kit_that_keeps_modules() { # DIR
+    mkdir -p "$1/on/$m/toolchain/bin"
+    for f in "$kit"/*; do [ "${f##*/}" = on ] || ln -sfn "$f" "$1/${f##*/}"; done
+    for f in "$kit/on/$m"/*; do [ "${f##*/}" = toolchain ] || ln -sfn "$f" "$1/on/$m/${f##*/}"; done
+    for f in "$tools"/*; do [ "${f##*/}" = bin ] || ln -sfn "$f" "$1/on/$m/toolchain/${f##*/}"; done
+    for f in "$tools"/bin/*; do [ "${f##*/}" = clang ] || ln -sfn "$f" "$1/on/$m/toolchain/bin/${f##*/}"; done
+    cat >"$1/on/$m/toolchain/bin/clang" <<END
+#!/bin/sh
+opt=O0
+for a in "\$@"; do case \$a in -O[0-3]) opt=\${a#-} ;; esac; done
+for a in "\$@"; do case \$a in *.bc) cp -f "\$a" "$1/module-\$opt.bc" ;; esac; done
+exec "$tools/bin/clang" "\$@"
+END
+    chmod +x "$1/on/$m/toolchain/bin/clang"
+}
+
+# The port's program. Where the machine is no x86-64, it is linked with the kit's own tools and run on the kit's emulator.
+link() { # ARCHIVE WORDS
+    lib=$1
+    shift
+    if [ "$m" = x86_64 ]; then
+        cc -O2 -fno-builtin "$@" "$here/port.c" "$lib" -o "$out/port"
+        port=("$out/port")
+        return
+    fi
+    "$tools/bin/clang" --target=$x86 -O2 -fPIE -fno-builtin "$@" -c "$here/port.c" -o "$out/port.o"
+    "$kit/on/$m/bin/rattle-link" --target $x86 --toolchain "$tools" -o "$out/port" "$out/port.o" "$lib" >"$out/link.log" 2>&1 || { cat "$out/link.log"; exit 1; }
+    port=("$tools/bin/qemu-x86_64" "$tools/lib/ld-linux-x86-64.so.2" --library-path "$tools/lib" "$out/port")
+}
