@@ -37,12 +37,17 @@ use tally::Tally;
 /// The most rows of a table.
 const ROWS: usize = 100_000;
 
-/// A case's reading by the rules.
+/// A case's reading by the rules, with as many rows as there may be.
 pub fn by_rules(case: &Case) -> Reading {
+    by_rules_in(case, ROWS)
+}
+
+/// A case's reading by the rules, with a table of so many rows.
+pub fn by_rules_in(case: &Case, rows: usize) -> Reading {
     if case.types.is_empty() {
         return rules::refused(8);
     }
-    rules::read(&case.types, case.root, &case.message, ROWS)
+    rules::read(&case.types, case.root, &case.message, rows)
 }
 
 /// The words of a table that has room for a reading, and some to spare.
@@ -125,16 +130,18 @@ fn show(case: &Case, why: &str) {
     println!("  book {}\n  root {}\n  message {}", hex(&case.book), case.root, hex(&case.message));
 }
 
+/// `run` and `first` with COUNT SEED CASES FOLDER PORT.., `list` with the list's folder, `sample` with COUNT SEED CASES and that folder.
 fn main() {
     let args: Vec<String> = std::env::args().collect();
     match args[1].as_str() {
         "run" => Run::new(&args, false).all(),
         "first" => {
-            watch::start();
-            Run::new(&args, true).all()
+            let mut run = Run::new(&args, true);
+            watch::start(60 + run.total / 1000);
+            run.all()
         }
         "list" => {
-            watch::start();
+            watch::start(60);
             if let Some(why) = list::differs(&args[2]) {
                 println!("{why}");
                 std::process::exit(1);
@@ -145,7 +152,6 @@ fn main() {
     }
 }
 
-/// `COUNT SEED CASES FOLDER PORT..`
 struct Run {
     port: Port,
     tally: Tally,

@@ -1,8 +1,9 @@
-// Reads a list from standard input, an entry at a time, and prints the answer and the rows of each. An entry is the number of rows of the
-// table, u16, and a case as `rows` takes it: the book, the root, the message's length, the message. A message that `rows` would not take is
-// read here too, and answered.
+// Reads a list from standard input and prints the answer and the rows of each entry. It reads an entry at a time: an array for the whole list
+// is longer than the checker follows. An entry is the number of rows of the table, u16, and a case as `rows` takes it: the book, the root, the
+// message's length, the message. A message that `rows` would not take is read here too, and answered.
 // The stored list begins with the 102 messages of Cyclone DDS and Fast-CDR whose rows are known from the samples that they wrote. The entries
-// after them, and what is said of them, `compare/sample` wrote from the crate dust_dds and document 01's rules; the port took no part in it.
+// after them, and what is said of them, `compare/sample` wrote (no words after it) from the crate dust_dds and document 01's rules; the port
+// took no part in it.
 use book::bytes::pair_at;
 use book::bytes::quad_at;
 use libc::STDOUT_FILENO;
