@@ -1,16 +1,23 @@
-# What compare/run and bench/run share: the crate's text as they compile it, and the port's code as an object that nothing proves.
-# Sourced, with `root` the repository's root and `me` the name of who asks.
+# The building steps that compare/run, compare/sample, compare/mutants and bench/run share. Sourced, with `me` the name of the folder that asks (compare).
+# In the environment:
+#   XTYPES       the crate's folder src/xtypes; ../shared/docs/src/src/xtypes from the repository's root if it is not set
+# They need rustc, and for the port the Rattle toolchain and, on x86-64, cc. Nothing is fetched. What is built is in target/compare, or target/bench.
+me=${me:-compare}
+beside=$(cd "$(dirname "${BASH_SOURCE[0]}")" && pwd -P)
+root=$(dirname "$beside")
 xtypes=${XTYPES:-$root/../shared/docs/src/src/xtypes}
 [ -f "$xtypes/deserializer.rs" ] || { echo "$me: no deserializer.rs in $xtypes; set XTYPES ($me/run --help)" >&2 && exit 2; }
+out=$root/target/$me
 m=$(uname -m)
 kit=${RATTLE_KIT:-$(cd "$(dirname "$(readlink -f "$(command -v rt)")")/.." && pwd -P)}
 tools=$kit/on/$m/toolchain
 x86=x86_64-unknown-linux-gnu
+mkdir -p "$out"
 
 # The crate's files as they are, but for the closing validation call, which document 01 leaves out, and two stand-ins beside them.
 crate_text() { # DIR
     mkdir -p "$1"
-    cp "$root"/compare/stand-ins/*.rs "$xtypes"/{data_storage,dynamic_type,error}.rs "$1/"
+    cp "$beside"/stand-ins/*.rs "$xtypes"/{data_storage,dynamic_type,error}.rs "$1/"
     sed '/^    if !dynamic_data.validate_dynamic_data() {$/,/^    }$/d' "$xtypes/deserializer.rs" >"$1/deserializer.rs"
     edit=$(diff "$xtypes/deserializer.rs" "$1/deserializer.rs" | grep '^[<>]' || :)
     if [ "$edit" != '<     if !dynamic_data.validate_dynamic_data() {
@@ -63,4 +70,41 @@ for a in "\$@"; do case \$a in *.bc) cp -f "\$a" "$1/module-\$opt.bc" ;; esac; d
 exec "$tools/bin/clang" "\$@"
 END
     chmod +x "$1/on/$m/toolchain/bin/clang"
+}
+
+# The comparison's program around the crate's text.
+texts() { # DIR
+    rm -rf "$1"
+    crate_text "$1/xtypes"
+    cp "$beside"/src/*.rs "$1/"
+}
+
+# An overflow in the crate's arithmetic is a panic, and shows as a difference.
+compile() { # DIR PROGRAM WORDS
+    rustc --edition 2021 -C overflow-checks=on -A warnings "$1/main.rs" -o "$2" "${@:3}"
+}
+
+# The port's program, and in `port` the words that run it.
+build_port() { # --unproved, or nothing
+    if [ "${1:-}" = --unproved ]; then
+        object "$out/unproved" "$out/rt.log"
+        link "$out/unproved/port.o" -DUNPROVED
+    else
+        archive "$out/rt.log"
+        link "$root/target/staticlib/libsinotayam.a"
+    fi
+}
+
+# Where the machine is no x86-64, the port's program is linked with the kit's own tools and run on the kit's emulator.
+link() { # ARCHIVE WORDS
+    lib=$1
+    shift
+    if [ "$m" = x86_64 ]; then
+        cc -O2 -fno-builtin "$@" "$beside/port.c" "$lib" -o "$out/port"
+        port=("$out/port")
+        return
+    fi
+    "$tools/bin/clang" --target=$x86 -O2 -fPIE -fno-builtin "$@" -c "$beside/port.c" -o "$out/port.o"
+    "$kit/on/$m/bin/rattle-link" --target $x86 --toolchain "$tools" -o "$out/port" "$out/port.o" "$lib" >"$out/link.log" 2>&1 || { cat "$out/link.log"; exit 1; }
+    port=("$tools/bin/qemu-x86_64" "$tools/lib/ld-linux-x86-64.so.2" --library-path "$tools/lib" "$out/port")
 }

@@ -15,13 +15,16 @@ mod books;
 mod broken;
 mod encode;
 mod gen;
+mod list;
 mod memory;
 mod oracle;
 mod port;
 mod rng;
 mod rules;
+mod sample;
 mod shrink;
 mod tally;
+mod watch;
 mod written;
 #[allow(dead_code, unused)]
 pub mod xtypes;
@@ -35,12 +38,17 @@ use tally::Tally;
 /// The most rows of a table.
 const ROWS: usize = 100_000;
 
-/// A case's reading by the rules.
+/// A case's reading by the rules, with as many rows as there may be.
 pub fn by_rules(case: &Case) -> Reading {
+    by_rules_in(case, ROWS)
+}
+
+/// A case's reading by the rules, with a table of so many rows.
+pub fn by_rules_in(case: &Case, rows: usize) -> Reading {
     if case.types.is_empty() {
         return rules::refused(8);
     }
-    rules::read(&case.types, case.root, &case.message, ROWS)
+    rules::read(&case.types, case.root, &case.message, rows)
 }
 
 /// The words of a table that has room for a reading, and some to spare.
@@ -89,34 +97,62 @@ fn show(case: &Case, why: &str) {
     println!("  book {}\n  root {}\n  message {}", hex(&case.book), case.root, hex(&case.message));
 }
 
+/// `run` and `first` with COUNT SEED CASES FOLDER PORT.., `list` with the list's folder, `sample` with COUNT SEED CASES and that folder.
 fn main() {
     let args: Vec<String> = std::env::args().collect();
-    let total: u64 = args[1].parse().expect("COUNT");
-    let seed: u64 = args[2].parse().expect("SEED");
-    let port = Port { folder: args[4].clone(), command: args[5..].to_vec() };
-    let mut run = Run { port, tally: Tally::default(), differences: 0 };
-    run.written(&args[3]);
-    let mut at = 0;
-    while at < total {
-        let n = (total - at).min(5000);
-        let cases: Vec<Case> = (at..at + n).map(|i| gen::case(seed, i)).collect();
-        run.window(cases, seed.wrapping_add(at));
-        at += n;
+    match args[1].as_str() {
+        "run" => Run::new(&args, false).all(),
+        "first" => {
+            let mut run = Run::new(&args, true);
+            watch::start(60 + run.total / 1000);
+            run.all()
+        }
+        "list" => {
+            watch::start(60);
+            if let Some(why) = list::differs(&args[2]) {
+                println!("{why}");
+                std::process::exit(1);
+            }
+        }
+        "sample" => sample::write(args[2].parse().expect("COUNT"), args[3].parse().expect("SEED"), &args[4], &args[5]),
+        other => panic!("no command {other}"),
     }
-    run.tally.print();
-    println!("{total} cases with seed {seed}: {} differences", run.differences);
-    std::process::exit((run.differences > 0) as i32);
 }
 
 struct Run {
     port: Port,
     tally: Tally,
     differences: u64,
+    total: u64,
+    seed: u64,
+    cases: String,
+    /// Ends at the first difference, and looks at no table: the crate has none.
+    first: bool,
 }
 
 impl Run {
-    fn written(&mut self, file: &str) {
-        let all = written::cases(file);
+    fn new(args: &[String], first: bool) -> Run {
+        let port = Port { folder: args[5].clone(), command: args[6..].to_vec() };
+        let (total, seed) = (args[2].parse().expect("COUNT"), args[3].parse().expect("SEED"));
+        Run { port, tally: Tally::default(), differences: 0, total, seed, cases: args[4].clone(), first }
+    }
+
+    fn all(&mut self) {
+        self.written();
+        let mut at = 0;
+        while at < self.total {
+            let n = (self.total - at).min(5000);
+            let cases: Vec<Case> = (at..at + n).map(|i| gen::case(self.seed, i)).collect();
+            self.window(cases, self.seed.wrapping_add(at));
+            at += n;
+        }
+        self.tally.print();
+        println!("{} cases with seed {}: {} differences", self.total, self.seed, self.differences);
+        std::process::exit((self.differences > 0) as i32);
+    }
+
+    fn written(&mut self) {
+        let all = written::cases(&self.cases);
         for w in &all {
             let r = by_rules(&w.case);
             if (r.number, r.rows.len()) != (w.number, w.rows) {
@@ -139,11 +175,17 @@ impl Run {
         }
         for ((c, r), got) in fit.iter().zip(self.port.run(&batch)) {
             self.tally.reading(c, r);
-            if differs(c, r, &got).is_some() {
+            if let Some(why) = differs(c, r, &got) {
+                if self.first {
+                    println!("{why}");
+                    std::process::exit(1);
+                }
                 self.differ(c);
             }
         }
-        self.tables(&fit, seed);
+        if !self.first {
+            self.tables(&fit, seed);
+        }
     }
 
     fn differ(&mut self, c: &Case) {
@@ -176,7 +218,7 @@ impl Run {
         }
         for ((c, r, k), got) in asked.into_iter().zip(self.port.run(&batch)) {
             let same = if k < r.needed { got.number == 13 && got.count == 0 } else { got.number == r.number && got.rows == r.rows };
-            self.tally.table(k, r);
+            self.tally.table(k, r.needed);
             if !(same && got.cleared && got.prepared) {
                 self.differences += 1;
                 show(c, &format!("a table of {k} rows, {} needed: {} with {} rows", r.needed, got.number, got.count));

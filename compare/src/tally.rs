@@ -138,8 +138,12 @@ impl Tally {
         }
     }
 
-    pub fn table(&mut self, k: usize, r: &Reading) {
-        self.add(format!("table {}", if k < r.needed { "too small" } else { "of enough rows" }));
+    pub fn names(&self) -> impl Iterator<Item = &String> {
+        self.0.keys()
+    }
+
+    pub fn table(&mut self, k: usize, needed: usize) {
+        self.add(format!("table {}", if k < needed { "too small" } else { "of enough rows" }));
     }
 
     fn wanted() -> Vec<String> {

@@ -34,7 +34,7 @@ module _ (s : List ℕ) (book : ℕ) (first : book ≡ quad (from s 0) 0) (messa
   message-is : message ≡ messageSize s
   message-is = rw book-is at last
 
-  pub size-is : book + 6 + message ≡ caseSize s
+  size-is : book + 6 + message ≡ caseSize s
   size-is = omega (arith, book-is, message-is)
 
   -- WHETHER IT IS A CASE

@@ -1,6 +1,6 @@
 // A case as bytes: the book, the root, the message's length and the message.
 ghost use mathlib.Core.Path.{_≡_};
-ghost use Rattle.cases.specs.Input.{caseSize, inputOf, Replied};
+ghost use Rattle.cases.specs.Input.{inputOf, Replied};
 use book::bytes::pair_at;
 use book::bytes::quad_at;
 use sinotayam::answer::Answer;
@@ -14,15 +14,6 @@ pub enum Input {
 pub enum Reply {
     Given(Answer),
     Wrong,
-}
-
-// The bytes of the case that s starts with.
-pub fn size_of(s: &[u8]) -> usize
-    ensures { λ r. ⌜ r ≡ caseSize (now (s .entry)) ⌝ }
-{
-    let book = quad_at(s, 0, 0) as usize;
-    let message = quad_at(s, book, 2) as usize;
-    book + 6 + message
 }
 
 pub fn input_of(s: &[u8]) -> Input

@@ -1,46 +1,88 @@
-// Reads cases from standard input, one after the other, and prints the answer and the rows of each. The stored cases are messages that
-// Cyclone DDS and Fast-CDR wrote; the stored output is made from the samples they wrote, by no reader.
-ghost use Prim.Native.Nat.{_≤_};
-ghost use lib.ListN.{length};
-use cases::input::Reply;
-use cases::input::read_case;
-use cases::input::size_of;
+// Reads a list from standard input and prints the answer and the rows of each entry. It reads an entry at a time: an array for the whole list
+// is longer than the checker follows. An entry is the number of rows of the table, u16, and a case as `rows` takes it: the book, the root, the
+// message's length, the message. A message that `rows` would not take is read here too, and answered.
+// The stored list begins with the 102 messages of Cyclone DDS and Fast-CDR whose rows are known from the samples that they wrote. The entries
+// after them, and what is said of them, `compare/sample` wrote (no words after it) from the crate dust_dds and document 01's rules; the port
+// took no part in it.
+use book::bytes::pair_at;
+use book::bytes::quad_at;
 use libc::STDOUT_FILENO;
 
-// Reads the case that s starts with, and tells its size; 0 where s has no whole case.
-fn step(s: &[u8], table: &mut [u64]) -> usize
-    ensures { λ r. ⌜ r ≤ length (now (s .entry)) ⌝ }
-{
-    let size = size_of(s);
-    if s.len() < size {
-        return 0;
-    }
-    match read_case(&s[0..size], table) {
-        Reply::Given(a) => {
-            cases::lines::answer(a, table);
-        }
-        Reply::Wrong => {
-            io::write_all(STDOUT_FILENO, b"input\n");
-        }
-    }
-    size
+// The longest entry: a book of 65,536 bytes and a message of one more, and eight bytes.
+const LONGEST: usize = 131081;
+
+// 2,048 rows: the largest table of an entry.
+const WORDS: usize = 8192;
+
+// The most entries of a list.
+const ENTRIES: usize = 100000;
+
+fn filled(part: &mut [u8]) -> bool {
+    io::read_full(0, part) == part.len()
 }
 
-fn all(s: &[u8], table: &mut [u64]) {
-    let mut at = 0;
-    while at < s.len() {
-        let size = step(&s[at..], table);
-        if size == 0 {
-            io::write_all(STDOUT_FILENO, b"input\n");
+fn say(book: &[u8], root: usize, message: &[u8], table: &mut [u64]) {
+    let a = sinotayam::read(book, root, message, table);
+    cases::lines::answer(a, table);
+}
+
+// Reads the message with the first `rows` rows of the table; false where it has fewer.
+fn read(book: &[u8], root: usize, message: &[u8], table: &mut [u64], rows: usize) -> bool {
+    if table.len() / 4 < rows {
+        return false;
+    }
+    let words = rows * 4;
+    say(book, root, message, &mut table[0..words]);
+    true
+}
+
+// Reads the rest of the entry whose first six bytes stand in buf, and its message; false where it is no whole entry.
+fn entry(buf: &mut [u8], table: &mut [u64]) -> bool {
+    let rows = pair_at(buf, 0, 0);
+    let book = quad_at(buf, 2, 0) as usize + 2;
+    let start = book + 6;
+    if buf.len() < start {
+        return false;
+    }
+    if !filled(&mut buf[6..start]) {
+        return false;
+    }
+    let root = pair_at(buf, book, 0);
+    let end = quad_at(buf, book, 2) as usize + start;
+    if buf.len() < end {
+        return false;
+    }
+    if !filled(&mut buf[start..end]) {
+        return false;
+    }
+    read(&buf[2..book], root, &buf[start..end], table, rows)
+}
+
+// Reads one entry, if there is one more; false where the list is at its end, or has no whole entry there.
+fn next(buf: &mut [u8], table: &mut [u64]) -> bool {
+    if buf.len() < 6 {
+        return false;
+    }
+    if io::read_full(0, &mut buf[0..6]) == 0 {
+        return false;
+    }
+    if entry(buf, table) {
+        return true;
+    }
+    io::write_all(STDOUT_FILENO, b"input\n");
+    false
+}
+
+fn all(buf: &mut [u8], table: &mut [u64]) {
+    for _ in 0..ENTRIES {
+        if !next(buf, table) {
             return;
         }
-        at += size;
     }
 }
 
 fn main() {
-    let mut input = io::large_buffer();
-    let n = io::read_full(0, &mut input);
-    let mut table = [0u64; 8192];
-    all(&input[..n], &mut table);
+    let mut buf = [0u8; LONGEST];
+    let mut table = [0u64; WORDS];
+    all(&mut buf, &mut table);
 }
