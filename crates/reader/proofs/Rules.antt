@@ -7,7 +7,7 @@ use Rattle.reader.proofs.StructureSteps.{fstruct-start, fstruct-turn, f
 use Rattle.reader.proofs.UnionSteps.{selected-absent, selected-unfit, selected-none, selected-looked, selected-plain, union-empty, funion-short, funion-refused, funion-read, munion-short, munion-refused, munion-read}
 use Rattle.reader.proofs.NestedSteps.{body-enum, body-first, body-second, body-munion, body-short, body-fstruct, body-funion, nested-unfit, nested-deep, nested-full, nested-read, nested-short, nested-refused}
 
-pub ruleset complex-laws = (complex-start, complex-turn, complex-short, complex-refused, complex-end)
+pub ruleset opened-laws = (complex-start, complex-turn, complex-short, complex-refused, complex-end)
 
 pub ruleset elements-laws = (elements-unsupported, elements-full, elements-complex, elements-block, elements-list, row-fits, row-next)
 
@@ -19,7 +19,7 @@ pub ruleset found-laws = (found-length, found-value)
 
 pub ruleset mmember-laws = (mmember-short, mmember-absent, mmember-read, mmember-fell, mmember-refused)
 
-pub ruleset optional-laws = (optional-looked, optional-short, optional-bad, optional-absent, optional-present)
+pub ruleset option-laws = (optional-looked, optional-short, optional-bad, optional-absent, optional-present)
 
 pub ruleset fmember-laws = (fmember-optional, fmember-value)
 
@@ -31,7 +31,7 @@ pub ruleset mstruct1-laws = (first-read, first-lost, first-short, first-refused)
 
 pub ruleset mstruct2-laws = (second-none, second-read, second-short, second-refused)
 
-pub ruleset selected-laws = (selected-absent, selected-unfit, selected-none, selected-looked, selected-plain)
+pub ruleset chosen-laws = (selected-absent, selected-unfit, selected-none, selected-looked, selected-plain)
 
 pub ruleset funion-laws = (union-empty, funion-short, funion-refused, funion-read)
 

@@ -37,7 +37,7 @@ pub fn fmember(
     ensures { λ r. ⌜ Done (fmemberIn (now (book .entry)) (now (index .entry)) (now (s .entry)) set depth (memberAt (now (book .entry)) p) c (room (now (t .entry)) n)) n (now (t .entry)) (now (t .exit)) r ⌝ }
 {
     if is_optional(book, p) {
-        return optional(book, index, s, set, t, p, c, n, depth);
+        return option(book, index, s, set, t, p, c, n, depth);
     }
     value(
         book,
@@ -54,7 +54,7 @@ pub fn fmember(
 }
 
 // Serialization rules 19 and 20: an optional member of a Final or Appendable type. XCDR1 looks it up, XCDR2 asks a boolean.
-pub fn optional(
+pub fn option(
     book: &[u8],
     index: &[u32],
     s: &[u8],

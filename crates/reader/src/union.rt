@@ -55,7 +55,7 @@ pub fn funion(
     ) {
         Out::Read(d, m) => {
             let v = discriminator_at(t, n, m);
-            selected(book, index, s, set, t, at, p, false, v, d, m, depth)
+            chosen(book, index, s, set, t, at, p, false, v, d, m, depth)
         }
         Out::Short(x) => Out::Short(x),
         Out::Refused(k) => Out::Refused(k),
@@ -94,7 +94,7 @@ pub fn munion(
     ) {
         Out::Read(d, m) => {
             let v = discriminator_at(t, n, m);
-            selected(book, index, s, set, t, at, p, true, v, d, m, depth)
+            chosen(book, index, s, set, t, at, p, true, v, d, m, depth)
         }
         Out::Short(x) => Out::Short(x),
         Out::Refused(k) => Out::Refused(k),
@@ -102,7 +102,7 @@ pub fn munion(
 }
 
 // The member that the discriminator at p selects.
-pub fn selected(
+pub fn chosen(
     book: &[u8],
     index: &[u32],
     s: &[u8],

@@ -124,7 +124,7 @@ pub fn elements(
             b: count,
         };
         put_row(t, n, row);
-        return complex(book, index, s, set, t, ty, count, c, n + 1, depth);
+        return opened(book, index, s, set, t, ty, count, c, n + 1, depth);
     }
     if (kind == 2) | (kind == 13) {
         return block(s, set, t, kind, id, count, c, n);
@@ -133,7 +133,7 @@ pub fn elements(
 }
 
 // Elements that are opened, one after the other.
-pub fn complex(
+pub fn opened(
     book: &[u8],
     index: &[u32],
     s: &[u8],

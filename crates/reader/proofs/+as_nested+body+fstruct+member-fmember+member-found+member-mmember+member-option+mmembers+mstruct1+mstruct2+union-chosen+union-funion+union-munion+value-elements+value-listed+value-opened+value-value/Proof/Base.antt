@@ -14,26 +14,26 @@ use Rattle.reader.proofs.member.found.Reads as member·found
 use Rattle.reader.proofs.member.found.Kinds as member·found-kinds
 use Rattle.reader.proofs.member.mmember.Reads as member·mmember
 use Rattle.reader.proofs.member.mmember.Kinds as member·mmember-kinds
-use Rattle.reader.proofs.member.optional.Reads as member·optional
-use Rattle.reader.proofs.member.optional.Kinds as member·optional-kinds
+use Rattle.reader.proofs.member.option.Reads as member·option
+use Rattle.reader.proofs.member.option.Kinds as member·option-kinds
 use Rattle.reader.proofs.mmembers.Reads as mmembers
 use Rattle.reader.proofs.mmembers.Kinds as mmembers-kinds
 use Rattle.reader.proofs.mstruct1.Reads as mstruct1
 use Rattle.reader.proofs.mstruct1.Kinds as mstruct1-kinds
 use Rattle.reader.proofs.mstruct2.Reads as mstruct2
 use Rattle.reader.proofs.mstruct2.Kinds as mstruct2-kinds
+use Rattle.reader.proofs.union.chosen.Reads as union·chosen
+use Rattle.reader.proofs.union.chosen.Kinds as union·chosen-kinds
 use Rattle.reader.proofs.union.funion.Reads as union·funion
 use Rattle.reader.proofs.union.funion.Kinds as union·funion-kinds
 use Rattle.reader.proofs.union.munion.Reads as union·munion
 use Rattle.reader.proofs.union.munion.Kinds as union·munion-kinds
-use Rattle.reader.proofs.union.selected.Reads as union·selected
-use Rattle.reader.proofs.union.selected.Kinds as union·selected-kinds
-use Rattle.reader.proofs.value.complex.Reads as value·complex
-use Rattle.reader.proofs.value.complex.Kinds as value·complex-kinds
 use Rattle.reader.proofs.value.elements.Reads as value·elements
 use Rattle.reader.proofs.value.elements.Kinds as value·elements-kinds
 use Rattle.reader.proofs.value.listed.Reads as value·listed
 use Rattle.reader.proofs.value.listed.Kinds as value·listed-kinds
+use Rattle.reader.proofs.value.opened.Reads as value·opened
+use Rattle.reader.proofs.value.opened.Kinds as value·opened-kinds
 use Rattle.reader.proofs.value.value.Reads as value·value
 use Rattle.reader.proofs.value.value.Kinds as value·value-kinds
 
@@ -55,8 +55,8 @@ abbrev pub μ-member·found : Measures 4 member·found-kinds.ps ℕ
 abbrev pub μ-member·mmember : Measures 4 member·mmember-kinds.ps ℕ
 μ-member·mmember κs a = 12 * a .1 .1 .1 .1 .1 .1 .1 .1 .0 + 6
 
-abbrev pub μ-member·optional : Measures 4 member·optional-kinds.ps ℕ
-μ-member·optional κs a = 12 * a .1 .1 .1 .1 .1 .1 .1 .1 .0 + 7
+abbrev pub μ-member·option : Measures 4 member·option-kinds.ps ℕ
+μ-member·option κs a = 12 * a .1 .1 .1 .1 .1 .1 .1 .1 .0 + 7
 
 abbrev pub μ-mmembers : Measures 4 mmembers-kinds.ps ℕ
 μ-mmembers κs a = 12 * a .1 .1 .1 .1 .1 .1 .1 .1 .0 + 9
@@ -67,23 +67,23 @@ abbrev pub μ-mstruct1 : Measures 4 mstruct1-kinds.ps ℕ
 abbrev pub μ-mstruct2 : Measures 4 mstruct2-kinds.ps ℕ
 μ-mstruct2 κs a = 12 * a .1 .1 .1 .1 .1 .1 .1 .1 .0 + 10
 
+abbrev pub μ-union·chosen : Measures 4 union·chosen-kinds.ps ℕ
+μ-union·chosen κs a = 12 * a .1 .1 .1 .1 .1 .1 .1 .1 .1 .1 .1 .0 + 9
+
 abbrev pub μ-union·funion : Measures 4 union·funion-kinds.ps ℕ
 μ-union·funion κs a = 12 * a .1 .1 .1 .1 .1 .1 .1 .1 .0 + 10
 
 abbrev pub μ-union·munion : Measures 4 union·munion-kinds.ps ℕ
 μ-union·munion κs a = 12 * a .1 .1 .1 .1 .1 .1 .1 .1 .0 + 10
 
-abbrev pub μ-union·selected : Measures 4 union·selected-kinds.ps ℕ
-μ-union·selected κs a = 12 * a .1 .1 .1 .1 .1 .1 .1 .1 .1 .1 .1 .0 + 9
-
-abbrev pub μ-value·complex : Measures 4 value·complex-kinds.ps ℕ
-μ-value·complex κs a = 12 * a .1 .1 .1 .1 .1 .1 .1 .1 .1 .0 + 1
-
 abbrev pub μ-value·elements : Measures 4 value·elements-kinds.ps ℕ
 μ-value·elements κs a = 12 * a .1 .1 .1 .1 .1 .1 .1 .1 .1 .1 .0 + 2
 
 abbrev pub μ-value·listed : Measures 4 value·listed-kinds.ps ℕ
 μ-value·listed κs a = 12 * a .1 .1 .1 .1 .1 .1 .1 .1 .1 .0 + 3
+
+abbrev pub μ-value·opened : Measures 4 value·opened-kinds.ps ℕ
+μ-value·opened κs a = 12 * a .1 .1 .1 .1 .1 .1 .1 .1 .1 .0 + 1
 
 abbrev pub μ-value·value : Measures 4 value·value-kinds.ps ℕ
 μ-value·value κs a = 12 * a .1 .1 .1 .1 .1 .1 .1 .1 .1 .0 + 4
@@ -151,21 +151,17 @@ member·mmember-below t =
     (falls 4 member·mmember-kinds.ps _<_ μ-member·mmember t)
     member·mmember.Pre
 
-abbrev pub member·optional-at : ℕ → In 4 member·optional-kinds.ps
-member·optional-at t =
-    and
-    4
-    member·optional-kinds.ps
-    (is 4 member·optional-kinds.ps μ-member·optional t)
-    member·optional.Pre
+abbrev pub member·option-at : ℕ → In 4 member·option-kinds.ps
+member·option-at t =
+    and 4 member·option-kinds.ps (is 4 member·option-kinds.ps μ-member·option t) member·option.Pre
 
-abbrev pub member·optional-below : ℕ → In 4 member·optional-kinds.ps
-member·optional-below t =
+abbrev pub member·option-below : ℕ → In 4 member·option-kinds.ps
+member·option-below t =
     and
     4
-    member·optional-kinds.ps
-    (falls 4 member·optional-kinds.ps _<_ μ-member·optional t)
-    member·optional.Pre
+    member·option-kinds.ps
+    (falls 4 member·option-kinds.ps _<_ μ-member·option t)
+    member·option.Pre
 
 abbrev pub mmembers-at : ℕ → In 4 mmembers-kinds.ps
 mmembers-at t = and 4 mmembers-kinds.ps (is 4 mmembers-kinds.ps μ-mmembers t) mmembers.Pre
@@ -187,6 +183,18 @@ mstruct2-at t = and 4 mstruct2-kinds.ps (is 4 mstruct2-kinds.ps μ-mstruct2 t) m
 abbrev pub mstruct2-below : ℕ → In 4 mstruct2-kinds.ps
 mstruct2-below t =
     and 4 mstruct2-kinds.ps (falls 4 mstruct2-kinds.ps _<_ μ-mstruct2 t) mstruct2.Pre
+
+abbrev pub union·chosen-at : ℕ → In 4 union·chosen-kinds.ps
+union·chosen-at t =
+    and 4 union·chosen-kinds.ps (is 4 union·chosen-kinds.ps μ-union·chosen t) union·chosen.Pre
+
+abbrev pub union·chosen-below : ℕ → In 4 union·chosen-kinds.ps
+union·chosen-below t =
+    and
+    4
+    union·chosen-kinds.ps
+    (falls 4 union·chosen-kinds.ps _<_ μ-union·chosen t)
+    union·chosen.Pre
 
 abbrev pub union·funion-at : ℕ → In 4 union·funion-kinds.ps
 union·funion-at t =
@@ -211,34 +219,6 @@ union·munion-below t =
     union·munion-kinds.ps
     (falls 4 union·munion-kinds.ps _<_ μ-union·munion t)
     union·munion.Pre
-
-abbrev pub union·selected-at : ℕ → In 4 union·selected-kinds.ps
-union·selected-at t =
-    and
-    4
-    union·selected-kinds.ps
-    (is 4 union·selected-kinds.ps μ-union·selected t)
-    union·selected.Pre
-
-abbrev pub union·selected-below : ℕ → In 4 union·selected-kinds.ps
-union·selected-below t =
-    and
-    4
-    union·selected-kinds.ps
-    (falls 4 union·selected-kinds.ps _<_ μ-union·selected t)
-    union·selected.Pre
-
-abbrev pub value·complex-at : ℕ → In 4 value·complex-kinds.ps
-value·complex-at t =
-    and 4 value·complex-kinds.ps (is 4 value·complex-kinds.ps μ-value·complex t) value·complex.Pre
-
-abbrev pub value·complex-below : ℕ → In 4 value·complex-kinds.ps
-value·complex-below t =
-    and
-    4
-    value·complex-kinds.ps
-    (falls 4 value·complex-kinds.ps _<_ μ-value·complex t)
-    value·complex.Pre
 
 abbrev pub value·elements-at : ℕ → In 4 value·elements-kinds.ps
 value·elements-at t =
@@ -267,6 +247,18 @@ value·listed-below t =
     value·listed-kinds.ps
     (falls 4 value·listed-kinds.ps _<_ μ-value·listed t)
     value·listed.Pre
+
+abbrev pub value·opened-at : ℕ → In 4 value·opened-kinds.ps
+value·opened-at t =
+    and 4 value·opened-kinds.ps (is 4 value·opened-kinds.ps μ-value·opened t) value·opened.Pre
+
+abbrev pub value·opened-below : ℕ → In 4 value·opened-kinds.ps
+value·opened-below t =
+    and
+    4
+    value·opened-kinds.ps
+    (falls 4 value·opened-kinds.ps _<_ μ-value·opened t)
+    value·opened.Pre
 
 abbrev pub value·value-at : ℕ → In 4 value·value-kinds.ps
 value·value-at t =

@@ -1,0 +1,32 @@
+-- `chosen`, one of the cycle. Made by tools/cycle.
+use borrow.Author.Needs.{needs}
+use Prim.Native.Nat.{ℕ}
+use Rattle.reader.proofs.union.chosen.Reads as union·chosen
+use Rattle.reader.proofs.+as_nested+body+fstruct+member-fmember+member-found+member-mmember+member-option+mmembers+mstruct1+mstruct2+union-chosen+union-funion+union-munion+value-elements+value-listed+value-opened+value-value.Lts-union-chosen as lts
+use Rattle.reader.proofs.+as_nested+body+fstruct+member-fmember+member-found+member-mmember+member-option+mmembers+mstruct1+mstruct2+union-chosen+union-funion+union-munion+value-elements+value-listed+value-opened+value-value.Proof.Base.{union·chosen-at, member·fmember-below, member·mmember-below}
+use Rattle.reader.proofs.member.fmember.Reads as member·fmember
+use Rattle.reader.proofs.member.mmember.Reads as member·mmember
+use Rattle.choice.proofs.select.select.Reads as select-reads
+use Rattle.reader.proofs.Rules.{chosen-laws}
+
+abbrev E : ℕ → lts.Claims
+E t = (select-reads.Asked, select-reads.Learnt, member·mmember-below t, member·mmember.Post, member·fmember-below t, member·fmember.Post)
+
+pub closed : (t : ℕ) {M : Type 1} → lts.Closed (E t) (union·chosen-at t) union·chosen.Post M
+closed t =
+    lts.spec (E t) (union·chosen-at t) union·chosen.Post
+    (λ c. search (needs, chosen-laws)) -- enum-told
+    (λ c. search (needs, chosen-laws)) -- enum-told-2
+    (λ c. search (needs, chosen-laws)) -- enum-known-v
+    (λ c κs. search (needs, chosen-laws)) -- select-requires
+    (λ c. search (needs, chosen-laws)) -- enum-told-3
+    (λ c. search (needs, chosen-laws)) -- enum-known-q
+    (λ c κs. search (needs, chosen-laws)) -- mmember-requires
+    (λ c. search (needs, chosen-laws)) -- same-length
+    (λ c. search (needs, chosen-laws)) -- returns
+    (λ c κs. search (needs, chosen-laws)) -- fmember-requires
+    (λ c. search (needs, chosen-laws)) -- returns-2
+    (λ c. search (needs, chosen-laws)) -- returns-3
+    (λ c. search (needs, chosen-laws)) -- returns-4
+    (λ c. search (needs, chosen-laws)) -- same-length-2
+    (λ c. search (needs, chosen-laws)) -- returns-5
