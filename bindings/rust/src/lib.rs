@@ -141,7 +141,9 @@ pub fn data(message: &[u8]) -> &[u8] {
     message.get(4..).unwrap_or(&[])
 }
 
-fn told(word: u64, table: &mut [u64]) -> Result<Rows<'_>, Refusal> {
+/// What a call tells of the table that it is lent.
+fn told(table: &mut [u64], call: impl FnOnce(*mut u64, usize) -> u64) -> Result<Rows<'_>, Refusal> {
+    let word = call(table.as_mut_ptr(), table.len());
     match Refusal::of_number(word as u8) {
         Some(refusal) => Err(refusal),
         None => Ok(Rows { words: &table[..(word >> 8) as usize * ROW] }),
@@ -151,18 +153,9 @@ fn told(word: u64, table: &mut [u64]) -> Result<Rows<'_>, Refusal> {
 /// Reads a message of the book's type `root` into the lent table.
 pub fn read<'t>(book: &[u8], root: u16, message: &[u8], table: &'t mut [u64]) -> Result<Rows<'t>, Refusal> {
     // The pointers and lengths are those of live slices, and only the table is written, which nothing else borrows.
-    let word = unsafe {
-        ffi::sinotayam_read(
-            book.as_ptr(),
-            book.len(),
-            root,
-            message.as_ptr(),
-            message.len(),
-            table.as_mut_ptr(),
-            table.len(),
-        )
-    };
-    told(word, table)
+    told(table, |t, words| unsafe {
+        ffi::sinotayam_read(book.as_ptr(), book.len(), root, message.as_ptr(), message.len(), t, words)
+    })
 }
 
 /// The type check: whether every reading of the book's type `root` is a finished one, or refused for the message's or the table's sake alone.
@@ -194,20 +187,12 @@ impl<'b> Prepared<'b> {
 
     /// The same answer as `read` with the book, which is not judged again.
     pub fn read<'t>(&self, root: u16, message: &[u8], table: &'t mut [u64]) -> Result<Rows<'t>, Refusal> {
+        let (book, index) = (self.book, &self.index);
         // As in `read`.
-        let word = unsafe {
+        told(table, |t, words| unsafe {
             ffi::sinotayam_read_prepared(
-                self.book.as_ptr(),
-                self.book.len(),
-                self.index.as_ptr(),
-                self.index.len(),
-                root,
-                message.as_ptr(),
-                message.len(),
-                table.as_mut_ptr(),
-                table.len(),
+                book.as_ptr(), book.len(), index.as_ptr(), index.len(), root, message.as_ptr(), message.len(), t, words,
             )
-        };
-        told(word, table)
+        })
     }
 }

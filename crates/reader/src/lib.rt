@@ -66,7 +66,10 @@ pub fn as_nested(
                 b: (m - n - 1) as u64,
             };
             put_row(t, n, row);
-            Out::Read(d, m)
+            // Made anew, word by word, as it was written: a copy in one piece would wait for both words.
+            let pos = d.pos;
+            let origin = d.origin;
+            Out::Read(Cursor { pos, origin }, m)
         }
         Out::Short(x) => Out::Short(x),
         Out::Refused(k) => Out::Refused(k),

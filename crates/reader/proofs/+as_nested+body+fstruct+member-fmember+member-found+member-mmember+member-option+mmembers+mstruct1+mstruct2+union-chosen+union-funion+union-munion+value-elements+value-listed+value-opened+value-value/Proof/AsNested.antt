@@ -32,9 +32,9 @@ closed t =
     (λ c. search (needs, as-nested-laws)) -- sub-body
     (λ c κs. search (needs, as-nested-laws)) -- body-requires
     (λ c. search (needs, as-nested-laws)) -- enum-known-d
-    (λ c. search (needs, as-nested-laws)) -- cast-t32
-    (λ c. search (needs, as-nested-laws)) -- sub-t34
-    (λ c. search (needs, as-nested-laws)) -- sub-t35
+    (λ c. search (needs, as-nested-laws)) -- cast-t34
+    (λ c. search (needs, as-nested-laws)) -- sub-t36
+    (λ c. search (needs, as-nested-laws)) -- sub-t37
     (λ c κs. place-kept _ _ _ _ _ _ (c .before .before .before .before .before .before .before .before .before .is-full .ensures) (c .before .before .before .before .before .before .before .before .if3 .left) (c .before .before .before .before .before .before .body .ensures)) -- put-row-requires
     (λ c. search (needs, as-nested-laws)) -- enum-known-x
     (λ c. search (needs, as-nested-laws)) -- enum-known-k
