@@ -17,12 +17,14 @@ fn each(s: &[u8], set: Settings, t: &mut [u64], kind: u8, count: u64, at: Cursor
     ensures { λ r. ⌜ Done (elementsFrom (now (s .entry)) set kind count 0 at (room (now (t .entry)) n)) n (now (t .entry)) (now (t .exit)) r ⌝ }
 {
     let mut i: u64 = 0;
-    let mut c = at;
+    let mut pos = at.pos;
+    let mut origin = at.origin;
     let mut m = n;
     while i < count {
-        match crate::scalar::scalar(s, set, t, kind, i, c, m) {
+        match crate::scalar::scalar(s, set, t, kind, i, Cursor { pos, origin }, m) {
             Out::Read(d, k) => {
-                c = d;
+                pos = d.pos;
+                origin = d.origin;
                 m = k;
             }
             Out::Short(x) => {
@@ -34,7 +36,7 @@ fn each(s: &[u8], set: Settings, t: &mut [u64], kind: u8, count: u64, at: Cursor
         }
         i += 1;
     }
-    Out::Read(c, m)
+    Out::Read(Cursor { pos, origin }, m)
 }
 
 // The elements: all at once where they are numbers that are there whole, else one by one.

@@ -17,13 +17,13 @@ E t = (is-optional-reads.Asked, is-optional-reads.Learnt, member·option-below t
 pub closed : (t : ℕ) {M : Type 1} → lts.Closed (E t) (member·fmember-at t) member·fmember.Post M
 closed t =
     lts.spec (E t) (member·fmember-at t) member·fmember.Post
-    (λ c κs. search (needs, fmember-laws)) -- is-optional-requires
-    (λ c κs. search (needs, fmember-laws)) -- option-requires
-    (λ c. search (needs, fmember-laws)) -- same-length
-    (λ c. search (needs, fmember-laws)) -- returns
-    (λ c κs. search (needs, fmember-laws)) -- type-index-requires
-    (λ c κs. search (needs, fmember-laws)) -- id-requires
-    (λ c. search (needs, fmember-laws)) -- cast-value
-    (λ c κs. search (needs, fmember-laws)) -- value-requires
-    (λ c. search (needs, fmember-laws)) -- same-length-2
-    (λ c. search (needs, fmember-laws)) -- returns-2
+    (λ c κs. search (needs, fmember-laws))  -- is-optional-requires
+    (λ c κs. search (needs, fmember-laws))  -- option-requires
+    (λ c. search (needs, fmember-laws))  -- same-length
+    (λ c. search (needs, fmember-laws))  -- returns
+    (λ c κs. search (needs, fmember-laws))  -- type-index-requires
+    (λ c κs. search (needs, fmember-laws))  -- id-requires
+    (λ c. search (needs, fmember-laws))  -- cast-value
+    (λ c κs. search (needs, fmember-laws))  -- value-requires
+    (λ c. search (needs, fmember-laws))  -- same-length-2
+    (λ c. search (needs, fmember-laws))  -- returns-2

@@ -25,18 +25,18 @@ abbrev μ-loop : lts.MeasureT-loop
 pub closed : (t : ℕ) {M : Type 1} → lts.Closed (E t) (mmembers-at t) mmembers.Post M
 closed t =
     lts.spec (E t) (mmembers-at t) mmembers.Post Inv-loop μ-loop
-    (λ c κs. search (needs, mmembers-laws)) -- members-requires
-    (λ c. search (needs, mmembers-laws)) -- loop-holds
-    (λ c κs. search (needs, mmembers-laws)) -- mmember-requires
-    (λ c. search (needs, mmembers-laws)) -- enum-known-e
-    (λ c. search (needs, mmembers-laws)) -- enum-known-x
-    (λ c. search (needs, mmembers-laws)) -- same-length
-    (λ c. search (needs, mmembers-laws)) -- returns
-    (λ c. search (needs, mmembers-laws)) -- enum-known-k
-    (λ c. search (needs, mmembers-laws)) -- same-length-2
-    (λ c. search (needs, mmembers-laws)) -- returns-2
-    (λ c κs. search (needs, mmembers-laws)) -- after-requires
-    (λ c. search (needs, mmembers-laws)) -- loop-less
-    (λ c. search (needs, mmembers-laws)) -- loop-again
-    (λ c. search (needs, mmembers-laws)) -- same-length-3
-    (λ c. search (needs, mmembers-laws)) -- returns-3
+    (λ c κs. search (needs, mmembers-laws))  -- members-requires
+    (λ c. search (needs, mmembers-laws))  -- loop-holds
+    (λ c κs. search (needs, mmembers-laws))  -- mmember-requires
+    (λ c. search (needs, mmembers-laws))  -- enum-known-e
+    (λ c. search (needs, mmembers-laws))  -- enum-known-x
+    (λ c. search (needs, mmembers-laws))  -- same-length
+    (λ c. search (needs, mmembers-laws))  -- returns
+    (λ c. search (needs, mmembers-laws))  -- enum-known-k
+    (λ c. search (needs, mmembers-laws))  -- same-length-2
+    (λ c. search (needs, mmembers-laws))  -- returns-2
+    (λ c κs. search (needs, mmembers-laws))  -- after-requires
+    (λ c. search (needs, mmembers-laws))  -- loop-less
+    (λ c. search (needs, mmembers-laws))  -- loop-again
+    (λ c. search (needs, mmembers-laws))  -- same-length-3
+    (λ c. search (needs, mmembers-laws))  -- returns-3

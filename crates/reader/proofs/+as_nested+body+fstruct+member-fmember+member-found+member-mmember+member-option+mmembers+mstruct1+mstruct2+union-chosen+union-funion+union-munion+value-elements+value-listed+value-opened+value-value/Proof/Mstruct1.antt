@@ -14,18 +14,18 @@ E t = (mmembers-below t, mmembers.Post, seek-to-sentinel-reads.Asked, seek-to-se
 pub closed : (t : ℕ) {M : Type 1} → lts.Closed (E t) (mstruct1-at t) mstruct1.Post M
 closed t =
     lts.spec (E t) (mstruct1-at t) mstruct1.Post
-    (λ c κs. search (needs, mstruct1-laws)) -- mmembers-requires
-    (λ c. search (needs, mstruct1-laws)) -- enum-known-d
-    (λ c κs. search (needs, mstruct1-laws)) -- seek-to-sentinel-requires
-    (λ c. search (needs, mstruct1-laws)) -- enum-known-e
-    (λ c. search (needs, mstruct1-laws)) -- enum-known-x
-    (λ c. search (needs, mstruct1-laws)) -- enum-known-x-2
-    (λ c. search (needs, mstruct1-laws)) -- enum-known-k
-    (λ c. search (needs, mstruct1-laws)) -- same-length
-    (λ c. search (needs, mstruct1-laws)) -- returns
-    (λ c. search (needs, mstruct1-laws)) -- same-length-2
-    (λ c. search (needs, mstruct1-laws)) -- returns-2
-    (λ c. search (needs, mstruct1-laws)) -- same-length-3
-    (λ c. search (needs, mstruct1-laws)) -- returns-3
-    (λ c. search (needs, mstruct1-laws)) -- same-length-4
-    (λ c. search (needs, mstruct1-laws)) -- returns-4
+    (λ c κs. search (needs, mstruct1-laws))  -- mmembers-requires
+    (λ c. search (needs, mstruct1-laws))  -- enum-known-d
+    (λ c κs. search (needs, mstruct1-laws))  -- seek-to-sentinel-requires
+    (λ c. search (needs, mstruct1-laws))  -- enum-known-e
+    (λ c. search (needs, mstruct1-laws))  -- enum-known-x
+    (λ c. search (needs, mstruct1-laws))  -- enum-known-x-2
+    (λ c. search (needs, mstruct1-laws))  -- enum-known-k
+    (λ c. search (needs, mstruct1-laws))  -- same-length
+    (λ c. search (needs, mstruct1-laws))  -- returns
+    (λ c. search (needs, mstruct1-laws))  -- same-length-2
+    (λ c. search (needs, mstruct1-laws))  -- returns-2
+    (λ c. search (needs, mstruct1-laws))  -- same-length-3
+    (λ c. search (needs, mstruct1-laws))  -- returns-3
+    (λ c. search (needs, mstruct1-laws))  -- same-length-4
+    (λ c. search (needs, mstruct1-laws))  -- returns-4

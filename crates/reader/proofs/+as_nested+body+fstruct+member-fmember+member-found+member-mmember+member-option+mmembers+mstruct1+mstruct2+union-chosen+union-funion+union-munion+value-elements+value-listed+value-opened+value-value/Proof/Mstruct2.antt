@@ -15,18 +15,18 @@ E t = (dheader-reads.Asked, dheader-reads.Learnt, mmembers-below t, mmembers.Pos
 pub closed : (t : ℕ) {M : Type 1} → lts.Closed (E t) (mstruct2-at t) mstruct2.Post M
 closed t =
     lts.spec (E t) (mstruct2-at t) mstruct2.Post
-    (λ c κs. search (needs, mstruct2-laws)) -- dheader-requires
-    (λ c. search (needs, mstruct2-laws)) -- enum-known-x
-    (λ c. search (needs, mstruct2-laws)) -- enum-known-end
-    (λ c κs. search (needs, mstruct2-laws)) -- mmembers-requires
-    (λ c. search (needs, mstruct2-laws)) -- enum-known-e
-    (λ c κs. search (needs, mstruct2-laws)) -- new-requires
-    (λ c. search (needs, mstruct2-laws)) -- enum-known-x-2
-    (λ c. search (needs, mstruct2-laws)) -- enum-known-k
-    (λ c. search (needs, mstruct2-laws)) -- returns
-    (λ c. search (needs, mstruct2-laws)) -- same-length
-    (λ c. search (needs, mstruct2-laws)) -- returns-2
-    (λ c. search (needs, mstruct2-laws)) -- same-length-2
-    (λ c. search (needs, mstruct2-laws)) -- returns-3
-    (λ c. search (needs, mstruct2-laws)) -- same-length-3
-    (λ c. search (needs, mstruct2-laws)) -- returns-4
+    (λ c κs. search (needs, mstruct2-laws))  -- dheader-requires
+    (λ c. search (needs, mstruct2-laws))  -- enum-known-x
+    (λ c. search (needs, mstruct2-laws))  -- enum-known-end
+    (λ c κs. search (needs, mstruct2-laws))  -- mmembers-requires
+    (λ c. search (needs, mstruct2-laws))  -- enum-known-e
+    (λ c κs. search (needs, mstruct2-laws))  -- new-requires
+    (λ c. search (needs, mstruct2-laws))  -- enum-known-x-2
+    (λ c. search (needs, mstruct2-laws))  -- enum-known-k
+    (λ c. search (needs, mstruct2-laws))  -- returns
+    (λ c. search (needs, mstruct2-laws))  -- same-length
+    (λ c. search (needs, mstruct2-laws))  -- returns-2
+    (λ c. search (needs, mstruct2-laws))  -- same-length-2
+    (λ c. search (needs, mstruct2-laws))  -- returns-3
+    (λ c. search (needs, mstruct2-laws))  -- same-length-3
+    (λ c. search (needs, mstruct2-laws))  -- returns-4

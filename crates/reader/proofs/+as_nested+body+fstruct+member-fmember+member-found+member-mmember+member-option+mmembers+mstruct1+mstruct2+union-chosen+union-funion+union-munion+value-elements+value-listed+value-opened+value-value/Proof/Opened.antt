@@ -24,17 +24,17 @@ abbrev μ-loop : lts.MeasureT-loop
 pub closed : (t : ℕ) {M : Type 1} → lts.Closed (E t) (value·opened-at t) value·opened.Post M
 closed t =
     lts.spec (E t) (value·opened-at t) value·opened.Post Inv-loop μ-loop
-    (λ c. search (needs, opened-laws)) -- loop-holds
-    (λ c κs. search (needs, opened-laws)) -- as-nested-requires
-    (λ c. search (needs, opened-laws)) -- enum-known-e
-    (λ c. search (needs, opened-laws)) -- enum-known-x
-    (λ c. search (needs, opened-laws)) -- same-length
-    (λ c. search (needs, opened-laws)) -- returns
-    (λ c. search (needs, opened-laws)) -- enum-known-k
-    (λ c. search (needs, opened-laws)) -- same-length-2
-    (λ c. search (needs, opened-laws)) -- returns-2
-    (λ c. search (needs, opened-laws)) -- add-i
-    (λ c. search (needs, opened-laws)) -- loop-less
-    (λ c. search (needs, opened-laws)) -- loop-again
-    (λ c. search (needs, opened-laws)) -- same-length-3
-    (λ c. search (needs, opened-laws)) -- returns-3
+    (λ c. search (needs, opened-laws))  -- loop-holds
+    (λ c κs. search (needs, opened-laws))  -- as-nested-requires
+    (λ c. search (needs, opened-laws))  -- enum-known-e
+    (λ c. search (needs, opened-laws))  -- enum-known-x
+    (λ c. search (needs, opened-laws))  -- same-length
+    (λ c. search (needs, opened-laws))  -- returns
+    (λ c. search (needs, opened-laws))  -- enum-known-k
+    (λ c. search (needs, opened-laws))  -- same-length-2
+    (λ c. search (needs, opened-laws))  -- returns-2
+    (λ c. search (needs, opened-laws))  -- add-i
+    (λ c. search (needs, opened-laws))  -- loop-less
+    (λ c. search (needs, opened-laws))  -- loop-again
+    (λ c. search (needs, opened-laws))  -- same-length-3
+    (λ c. search (needs, opened-laws))  -- returns-3

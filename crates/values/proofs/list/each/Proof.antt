@@ -1,16 +1,17 @@
-use borrow.Author.Needs.{needs}
-use Rattle.values.proofs.Lists.{ElementsSofar, elements-start, elements-turn, elements-short, elements-refused, elements-end}
 use Prim.Native.Nat.{_-_}
+use Rattle.wire.specs.Place.{cursorAt}
 use Rattle.table.specs.Rows.{room}
 use Rattle.values.specs.List.{elementsFrom}
+use Rattle.values.proofs.Lists.{ElementsSofar, elements-start, elements-turn, elements-short, elements-refused, elements-end}
+use borrow.Author.Needs.{needs}
 use Rattle.values.proofs.list.each.Statement.{statement}
 use Rattle.values.proofs.list.each.Tie as tie
 
 abbrev Inv-loop : tie.InvT-loop
-Inv-loop s set t₀ kind count n i₀ c₀ m₀ t i c m = ElementsSofar s set kind count (elementsFrom s set kind count 0 c₀ (room t₀ n)) n t₀ t i c m
+Inv-loop s set t₀ kind count n i₀ pos₀ origin₀ m₀ t i pos origin m = ElementsSofar s set kind count (elementsFrom s set kind count 0 (cursorAt pos₀ origin₀) (room t₀ n)) n t₀ t i (cursorAt pos origin) m
 
 abbrev μ-loop : tie.MeasureT-loop
-μ-loop s set t₀ kind count n i₀ c₀ m₀ t i c m = count - i
+μ-loop s set t₀ kind count n i₀ pos₀ origin₀ m₀ t i pos origin m = count - i
 
 loop-holds : tie.Need-loop-holds Inv-loop μ-loop
 loop-holds c = search (needs, elements-start, elements-turn, elements-short, elements-refused, elements-end)
@@ -52,7 +53,7 @@ same-length-3 : tie.Need-same-length-3 Inv-loop μ-loop
 same-length-3 c = search (needs, elements-start, elements-turn, elements-short, elements-refused, elements-end)
 
 returns-3 : tie.Need-returns-3 Inv-loop μ-loop
-returns-3 c = search (needs, elements-start, elements-turn, elements-short, elements-refused, elements-end)
+returns-3 c = elements-end _ _ _ _ _ _ _ _ _ _ _ (c .before .loop .inv) (c .loop-test .left)
 
 pub each-spec : {M : Type 1} → statement M
 each-spec =
