@@ -6,7 +6,7 @@ use native.Mathlib.Omega.{arith}
 use native.Mathlib.Nat.{pow-le-pow-right, sub-self, pow-succ', add-mul, mul-assoc, add-zero, zero-add, mul-add-mod-self-right, mod-eq-of-lt, mul-add-div-right, div-eq-of-lt}
 use lib.ListN.{getD}
 use lib.Dec.{lit<}
-use Rattle.wire.specs.Number.{numberAt}
+use Rattle.wire.specs.Number.{numberAt, Bytes, turnedTwo, turnedFour, turnedEight}
 use Rattle.wire.specs.declared.settings.ByteOrder.{ByteOrder}
 use Rattle.wire.specs.declared.settings.ByteOrder.the-variants.{BigEndian, LittleEndian}
 
@@ -135,3 +135,76 @@ low-word high low h = mul-add-mod-self-right high (2 ^ 64) low ∙ mod-eq-of-lt 
 
 pub high-word : (high low : ℕ) → low < 2 ^ 64 → (high * 2 ^ 64 + low) / 2 ^ 64 ≡ high
 high-word high low h = mul-add-div-right {m = 2 ^ 64} (lit< tt) high low ∙ rw (div-eq-of-lt h) (omega arith)
+
+-- ---- bytes in the other order
+
+module _ (s : List ℕ) (p : ℕ) where
+  pub two-bytes : getD s p 0 < 256 → getD s (p + 1) 0 < 256 → Bytes s p 2
+  two-bytes a b zero h = rw (add-zero p) a
+  two-bytes a b (suc zero) h = b
+  two-bytes a b (suc (suc k)) h = absurd (omega arith)
+
+  pub four-bytes : getD s p 0 < 256 → getD s (p + 1) 0 < 256 → getD s (p + 2) 0 < 256 → getD s (p + 3) 0 < 256 → Bytes s p 4
+  four-bytes a b c d zero h = rw (add-zero p) a
+  four-bytes a b c d (suc zero) h = b
+  four-bytes a b c d (suc (suc zero)) h = c
+  four-bytes a b c d (suc (suc (suc zero))) h = d
+  four-bytes a b c d (suc (suc (suc (suc k)))) h = absurd (omega arith)
+
+last-digit : (x y : ℕ) → y < 256 → (x * 256 + y) % 256 ≡ y
+last-digit x y h = mul-add-mod-self-right x 256 y ∙ mod-eq-of-lt h
+
+turn-two : (a b : ℕ) → a < 256 → b < 256 → turnedTwo (b * 256 + a) ≡ a * 256 + b
+unfolding turnedTwo
+turn-two a b ha hb =
+    let f : (b * 256 + a) / 256 ≡ b = omega arith in
+    rw (last-digit b a ha, f, mod-eq-of-lt hb)
+
+turn-four : (a b c d : ℕ) → a < 256 → b < 256 → c < 256 → d < 256 → turnedFour (((d * 256 + c) * 256 + b) * 256 + a) ≡ ((a * 256 + b) * 256 + c) * 256 + d
+unfolding turnedFour
+turn-four a b c d ha hb hc hd =
+    let f : (((d * 256 + c) * 256 + b) * 256 + a) / 256 ≡ (d * 256 + c) * 256 + b = omega arith in
+    let g : (((d * 256 + c) * 256 + b) * 256 + a) / 256 ^ 2 ≡ d * 256 + c = omega arith in
+    let h : (((d * 256 + c) * 256 + b) * 256 + a) / 256 ^ 3 ≡ d = omega arith in
+    rw (last-digit ((d * 256 + c) * 256 + b) a ha, f, last-digit (d * 256 + c) b hb, g, last-digit d c hc, h, mod-eq-of-lt hd) (omega arith)
+
+-- what the two orders make of the same bytes
+module _ (o : ByteOrder) (s : List ℕ) (p v r : ℕ) where
+  pub turned-two : o ≡ BigEndian → Bytes s p 2 → v ≡ numberAt LittleEndian 0 s p 2 → r ≡ turnedTwo v → r ≡ numberAt o 0 s p 2
+  turned-two k h e f =
+      let a : getD s p 0 < 256 = rw (add-zero p) at (h 0 (lit< tt)) in
+      let b : getD s (p + 1) 0 < 256 = h 1 (lit< tt) in
+      be-two o s p r k (f ∙ rw (e ∙ sym (le-two LittleEndian s p (getD s (p + 1) 0 * 256 + getD s p 0) refl refl)) (turn-two (getD s p 0) (getD s (p + 1) 0) a b))
+
+  pub turned-four : o ≡ BigEndian → Bytes s p 4 → v ≡ numberAt LittleEndian 0 s p 4 → r ≡ turnedFour v → r ≡ numberAt o 0 s p 4
+  turned-four k h e f =
+      let a : getD s p 0 < 256 = rw (add-zero p) at (h 0 (lit< tt)) in
+      be-four o s p r k
+      (f
+      ∙ rw (e ∙ sym (le-four LittleEndian s p (((getD s (p + 3) 0 * 256 + getD s (p + 2) 0) * 256 + getD s (p + 1) 0) * 256 + getD s p 0) refl refl))
+      (turn-four (getD s p 0) (getD s (p + 1) 0) (getD s (p + 2) 0) (getD s (p + 3) 0) a (h 1 (lit< tt)) (h 2 (lit< tt)) (h 3 (lit< tt))))
+
+  pub same-two : o ≡ LittleEndian → v ≡ numberAt LittleEndian 0 s p 2 → v ≡ numberAt o 0 s p 2
+  same-two k e = rw k e
+
+  pub same-four : o ≡ LittleEndian → v ≡ numberAt LittleEndian 0 s p 4 → v ≡ numberAt o 0 s p 4
+  same-four k e = rw k e
+
+four-below : (s : List ℕ) (p v : ℕ) → Bytes s p 4 → v ≡ numberAt LittleEndian 0 s p 4 → v < 256 ^ 4
+four-below s p v h e =
+    let a : getD s p 0 < 256 = rw (add-zero p) at (h 0 (lit< tt)) in
+    let f : v ≡ ((getD s (p + 3) 0 * 256 + getD s (p + 2) 0) * 256 + getD s (p + 1) 0) * 256 + getD s p 0 = e ∙ sym (le-four LittleEndian s p _ refl refl) in
+    omega (arith, h 1 (lit< tt), h 2 (lit< tt), h 3 (lit< tt))
+
+module _ (o : ByteOrder) (s : List ℕ) (p v r : ℕ) where
+  pub turned-eight : o ≡ BigEndian → Bytes s p 4 → Bytes s (p + 4) 4 → v ≡ numberAt LittleEndian 0 s (p + 4) 4 * 256 ^ 4 + numberAt LittleEndian 0 s p 4 → r ≡ turnedEight v → r ≡ numberAt o 0 s p 8
+  unfolding turnedEight
+  turned-eight k h g e f =
+      let low : numberAt LittleEndian 0 s p 4 < 256 ^ 4 = four-below s p (numberAt LittleEndian 0 s p 4) h refl in
+      let m : v % 256 ^ 4 ≡ numberAt LittleEndian 0 s p 4 = rw e (mul-add-mod-self-right (numberAt LittleEndian 0 s (p + 4) 4) (256 ^ 4) (numberAt LittleEndian 0 s p 4) ∙ mod-eq-of-lt low) in
+      let d : v / 256 ^ 4 ≡ numberAt LittleEndian 0 s (p + 4) 4 = rw e (mul-add-div-right {m = 256 ^ 4} (lit< tt) (numberAt LittleEndian 0 s (p + 4) 4) (numberAt LittleEndian 0 s p 4) ∙ rw (div-eq-of-lt low) (omega arith)) in
+      be-eight o s p r (turnedFour (v % 256 ^ 4)) (turnedFour (v / 256 ^ 4)) (turned-four o s p (v % 256 ^ 4) (turnedFour (v % 256 ^ 4)) k h m refl) (turned-four o s (p + 4) (v / 256 ^ 4) (turnedFour (v / 256 ^ 4)) k g d refl) k f
+
+  pub same-eight : o ≡ LittleEndian → v ≡ numberAt LittleEndian 0 s (p + 4) 4 * 256 ^ 4 + numberAt LittleEndian 0 s p 4 → v ≡ numberAt o 0 s p 8
+  same-eight k e =
+      rw k (le-eight LittleEndian s p v (numberAt LittleEndian 0 s p 4) (numberAt LittleEndian 0 s (p + 4) 4) refl refl refl e)

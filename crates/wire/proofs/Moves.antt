@@ -8,7 +8,7 @@ use native.Mathlib.Nat.{mod-lt, mod-self, zero-mod, mod-eq-of-lt, add-mod, add-m
 use lib.ListN.{length}
 use lib.Dec.{leb, lit<}
 use borrow.Author.Tests.{le-leb, lt-leb, leb-true, leb-false}
-use Rattle.wire.specs.Place.{moved, shortAt, alignmentOf, paddingOf, seekTo, alignTo, afterMove}
+use Rattle.wire.specs.Place.{moved, shortAt, alignmentOf, gapOf, paddingOf, seekTo, alignTo, afterMove}
 use Rattle.wire.specs.declared.settings.Version.{Version}
 use Rattle.wire.specs.declared.settings.Version.the-variants.{Xcdr1, Xcdr2}
 use Rattle.wire.specs.declared.cursor.Cursor.{Cursor}
@@ -39,14 +39,26 @@ pub padding-none : (c : Cursor) (a : ℕ) → c .pos < c .origin → 0 ≡ paddi
 unfolding paddingOf
 padding-none c a h = simp (sub-eq-zero-of-le (le-of-lt h), zero-mod, sub-zero, mod-self)
 
--- by an alignment that is known
-pub padding-by : (c : Cursor) (a k : ℕ) → a ≡ k → (k - (c .pos - c .origin) % k) % k ≡ paddingOf c a
+pub padding-gap : (c : Cursor) (a r : ℕ) → r ≡ gapOf (c .pos - c .origin) a → r ≡ paddingOf c a
 unfolding paddingOf
-padding-by c a k e = rw e
+padding-gap c a r e = e
 
-pub padding-one : (c : Cursor) (a : ℕ) → a ≡ 1 → 0 ≡ paddingOf c a
-unfolding paddingOf
-padding-one c a e = rw e (let h : (1 - (c .pos - c .origin) % 1) % 1 < 1 = mod-lt _ (lit< tt) in omega arith)
+-- by an alignment that is known
+pub gap-by : (from a k : ℕ) → a ≡ k → gapOf from k ≡ gapOf from a
+gap-by from a k e = rw e
+
+pub gap-as : (from a b r : ℕ) → a ≡ b → r ≡ gapOf from a → r ≡ gapOf from b
+gap-as from a b r e f = rw (← e) f
+
+pub gap-one : (from a : ℕ) → a ≡ 1 → 0 ≡ gapOf from a
+gap-one from a e = rw e (let h : (1 - from % 1) % 1 < 1 = mod-lt _ (lit< tt) in omega arith)
+
+pub gap-below : (from a : ℕ) → 0 < a → gapOf from a < a
+gap-below from a h = mod-lt _ h
+
+-- where a number starts
+pub start-at : (c : Cursor) (v : Version) (n a g r : ℕ) → a ≡ alignmentOf v n → g ≡ gapOf (c .pos - c .origin) a → r ≡ c .pos + g → r ≡ c .pos + paddingOf c (alignmentOf v n)
+start-at c v n a g r e f i = i ∙ ap (λ (y : ℕ). c .pos + y) (padding-gap c (alignmentOf v n) g (gap-as (c .pos - c .origin) a (alignmentOf v n) g e f))
 
 pub rest-below : (x a : ℕ) → 0 < a → x % a ≤ a
 rest-below x a h = le-of-lt (mod-lt x h)

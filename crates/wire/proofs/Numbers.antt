@@ -154,3 +154,12 @@ module _ {A : Type 0} (short : Shortage → A) (next : ℕ → Cursor → A) {n 
   pub after-none : {x : Shortage} → n ≡ number.Short x → afterNumber short n next ≡ short x
   unfolding afterNumber
   after-none e = rw e
+
+-- a number that is all there, q being where it stands
+pub read-there : (s : List ℕ) (set : Settings) (c : Cursor) (w q v : ℕ) → q ≡ c .pos + paddingOf c (alignmentOf (set .version) w) → q + w ≤ length s → v ≡ numberAt (set .order) 0 s q w
+    → readNumber s set c w ≡ number.Got v (cursorAt (q + w) (c .origin))
+unfolding readNumber onAligned numberHere onBytes alignTo
+read-there s set c w q v e h f =
+    let a : seekTo s c (paddingOf c (alignmentOf (set .version) w)) ≡ place.At (cursorAt q (c .origin)) = rw e (sym (seek-at s c (paddingOf c (alignmentOf (set .version) w)) (omega arith))) in
+    let b : seekTo s (cursorAt q (c .origin)) w ≡ place.At (cursorAt (q + w) (c .origin)) = sym (seek-at s (cursorAt q (c .origin)) w h) in
+    rw (a, b, f)

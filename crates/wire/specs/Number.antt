@@ -29,6 +29,20 @@ numberAt BigEndian v s p (suc w) = numberAt BigEndian (v * 256 + getD s p 0) s (
 numberAt LittleEndian v s p zero = v
 numberAt LittleEndian v s p (suc w) = numberAt LittleEndian (v * 256 + getD s (p + w) 0) s p w
 
+-- w elements from p on are bytes. A list's elements may be any numbers; a slice's are such.
+abbrev pub Bytes : List ℕ → ℕ → ℕ → Type 0
+Bytes s p w = (k : ℕ) → k < w → getD s (p + k) 0 < 256
+
+-- a number of two, four or eight bytes, with its bytes in the other order
+unfoldable pub turnedTwo : ℕ → ℕ
+turnedTwo v = v % 256 * 256 + v / 256 % 256
+
+unfoldable pub turnedFour : ℕ → ℕ
+turnedFour v = v % 256 * 256 ^ 3 + v / 256 % 256 * 256 ^ 2 + v / 256 ^ 2 % 256 * 256 + v / 256 ^ 3 % 256
+
+unfoldable pub turnedEight : ℕ → ℕ
+turnedEight v = turnedFour (v % 256 ^ 4) * 256 ^ 4 + turnedFour (v / 256 ^ 4)
+
 unfoldable pub onBytes : List ℕ → ByteOrder → ℕ → ℕ → Place → Number
 onBytes s o p w (place.Short x) = number.Short x
 onBytes s o p w (place.At c) = number.Got (numberAt o 0 s p w) c

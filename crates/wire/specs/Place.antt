@@ -30,9 +30,13 @@ unfoldable pub alignmentOf : Version → ℕ → ℕ
 alignmentOf Xcdr1 size = size
 alignmentOf Xcdr2 size = min size 4
 
--- ".., counted from the origin": the bytes to the next multiple of the alignment
+-- the bytes to the next multiple of the alignment
+abbrev pub gapOf : ℕ → ℕ → ℕ
+gapOf from alignment = (alignment - from % alignment) % alignment
+
+-- ".., counted from the origin"
 unfoldable pub paddingOf : Cursor → ℕ → ℕ
-paddingOf c alignment = (alignment - (c .pos - c .origin) % alignment) % alignment
+paddingOf c alignment = gapOf (c .pos - c .origin) alignment
 
 -- past n bytes where the data has them, else short where it stands.
 -- "A position may pass the end; then even a skip of 0 is 1."

@@ -1,8 +1,9 @@
 // Where a reading stands in the data, and how it moves. Nothing is required of a position, an origin or a length: each test stands
 // before the sum that it allows, so nothing wraps, past the end too.
 ghost use mathlib.Core.Path.{_≡_};
-ghost use Prim.Native.Nat.{_<_};
-ghost use Rattle.wire.specs.Place.{cursorAt, broughtBack, alignmentOf, paddingOf, seekTo, alignTo};
+ghost use Prim.Native.Nat.{_+_, _<_, _≤_};
+ghost use lib.ListN.{length};
+ghost use Rattle.wire.specs.Place.{cursorAt, broughtBack, alignmentOf, gapOf, paddingOf, seekTo, alignTo};
 use crate::settings::Version;
 
 pub struct Cursor {
@@ -51,15 +52,7 @@ impl Cursor {
         if pos < origin {
             return 0;
         }
-        let from = pos - origin;
-        // By a constant the remainder costs nothing; by a number that is not known it is a division.
-        match alignment {
-            1 => 0,
-            2 => (2 - from % 2) % 2,
-            4 => (4 - from % 4) % 4,
-            8 => (8 - from % 8) % 8,
-            _ => (alignment - from % alignment) % alignment,
-        }
+        gap(pos - origin, alignment)
     }
 
     // Past a block of n bytes. This alone asks where the data ends; a block's bytes stay in the data, so the Rust's read_bytes is this too.
@@ -78,6 +71,23 @@ impl Cursor {
         Place::At(Cursor::new(pos + n, origin))
     }
 
+    // Where a number of `size` bytes stands, if the data has all of it; the caller asks whether it does. A position alone goes by register.
+    pub fn start(self, s: &[u8], version: Version, size: usize) -> usize
+        requires { ⌜ (0 < size) × (size ≤ 8) ⌝ }
+        ensures { λ r. ⌜ (r + size ≤ length (now (s .entry)) → r ≡ self .pos + paddingOf self (alignmentOf version size)) × (r ≤ length (now (s .entry)) + 8) ⌝ }
+    {
+        let pos = self.pos;
+        let origin = self.origin;
+        let end = s.len();
+        if pos < origin {
+            return end;
+        }
+        if end < pos {
+            return end;
+        }
+        pos + gap(pos - origin, alignment_of(version, size))
+    }
+
     // To where a number of `size` bytes may stand.
     pub fn align(self, s: &[u8], version: Version, size: usize) -> Place
         requires { ⌜ 0 < size ⌝ }
@@ -90,7 +100,7 @@ impl Cursor {
 }
 
 fn alignment_of(version: Version, size: usize) -> usize
-    ensures { λ r. ⌜ r ≡ alignmentOf version size ⌝ }
+    ensures { λ r. ⌜ (r ≡ alignmentOf version size) × (r ≤ size) ⌝ }
 {
     match version {
         Version::Xcdr1 => size,
@@ -101,5 +111,19 @@ fn alignment_of(version: Version, size: usize) -> usize
                 size
             }
         }
+    }
+}
+
+fn gap(from: usize, alignment: usize) -> usize
+    requires { ⌜ 0 < alignment ⌝ }
+    ensures { λ r. ⌜ (r ≡ gapOf from alignment) × (r < alignment) ⌝ }
+{
+    // By a constant the remainder costs nothing; by a number that is not known it is a division.
+    match alignment {
+        1 => 0,
+        2 => (2 - from % 2) % 2,
+        4 => (4 - from % 4) % 4,
+        8 => (8 - from % 8) % 8,
+        _ => (alignment - from % alignment) % alignment,
     }
 }

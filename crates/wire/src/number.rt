@@ -3,7 +3,7 @@
 ghost use mathlib.Core.Path.{_≡_};
 ghost use Prim.Native.Nat.{_+_, _*_, _≤_, _<_, _^_};
 ghost use lib.ListN.{length};
-ghost use Rattle.wire.specs.Number.{numberAt, numberHere, booleanIn, readFloat128, float128Here, readBoolean, ReadIs, HereIs};
+ghost use Rattle.wire.specs.Number.{numberAt, Bytes, turnedTwo, turnedFour, turnedEight, numberHere, booleanIn, readFloat128, float128Here, readBoolean, ReadIs, HereIs};
 use crate::cursor::Cursor;
 use crate::cursor::Place;
 use crate::cursor::Shortage;
@@ -70,25 +70,73 @@ fn from_each_byte(s: &[u8], order: ByteOrder, pos: usize, width: usize) -> u64
 
 // The number of two bytes, the first the higher.
 pub fn two(a: u8, b: u8) -> u64
-    ensures { λ r. ⌜ (r ≡ a * 256 + b) × (r < 256 ^ 2) ⌝ }
+    ensures { λ r. ⌜ (r ≡ a * 256 + b) × (r < 256 ^ 2) × (a < 256) × (b < 256) ⌝ }
 {
-    ground::wide(a) * 256 + ground::wide(b)
+    ground::wide(a) * 0x100 + ground::wide(b)
 }
 
-// The number of four bytes, the first the highest.
+// The number of four bytes, the first the highest. It is one load of the machine's where the bytes are added up in this way.
 pub fn four(a: u8, b: u8, c: u8, d: u8) -> u64
-    ensures { λ r. ⌜ (r ≡ ((a * 256 + b) * 256 + c) * 256 + d) × (r < 256 ^ 4) ⌝ }
+    ensures { λ r. ⌜ (r ≡ ((a * 256 + b) * 256 + c) * 256 + d) × (r < 256 ^ 4) × (a < 256) × (b < 256) × (c < 256) × (d < 256) ⌝ }
 {
-    ((ground::wide(a) * 256 + ground::wide(b)) * 256 + ground::wide(c)) * 256 + ground::wide(d)
+    ground::wide(a) * 0x100_0000
+        + ground::wide(b) * 0x1_0000
+        + ground::wide(c) * 0x100
+        + ground::wide(d)
+}
+
+// Two, four or eight bytes, the last the highest. Apart from what is then done with them, the compiler knows them as one load.
+fn two_here(s: &[u8], p: usize) -> u64
+    requires { ⌜ p + 2 ≤ length (now s) ⌝ }
+    ensures { λ r. ⌜ (r ≡ numberAt ByteOrder.LittleEndian 0 (now (s .entry)) p 2) × (r < 256 ^ 2) × Bytes (now (s .entry)) p 2 ⌝ }
+{
+    two(s[p + 1], s[p])
+}
+
+fn four_here(s: &[u8], p: usize) -> u64
+    requires { ⌜ p + 4 ≤ length (now s) ⌝ }
+    ensures { λ r. ⌜ (r ≡ numberAt ByteOrder.LittleEndian 0 (now (s .entry)) p 4) × (r < 256 ^ 4) × Bytes (now (s .entry)) p 4 ⌝ }
+{
+    four(s[p + 3], s[p + 2], s[p + 1], s[p])
+}
+
+fn eight_here(s: &[u8], p: usize) -> u64
+    requires { ⌜ p + 8 ≤ length (now s) ⌝ }
+    ensures { λ r. ⌜ (r ≡ numberAt ByteOrder.LittleEndian 0 (now (s .entry)) (p + 4) 4 * 256 ^ 4 + numberAt ByteOrder.LittleEndian 0 (now (s .entry)) p 4) × (r < 256 ^ 8) × Bytes (now (s .entry)) p 4 × Bytes (now (s .entry)) (p + 4) 4 ⌝ }
+{
+    four_here(s, p) + four_here(s, p + 4) * 0x1_0000_0000
+}
+
+// The same bytes in the other order, which is one instruction of the machine's.
+fn turned_two(v: u64) -> u64
+    ensures { λ r. ⌜ (r ≡ turnedTwo v) × (r < 256 ^ 2) ⌝ }
+{
+    v % 0x100 * 0x100 + v / 0x100 % 0x100
+}
+
+fn turned_four(v: u64) -> u64
+    ensures { λ r. ⌜ (r ≡ turnedFour v) × (r < 256 ^ 4) ⌝ }
+{
+    v % 0x100 * 0x100_0000
+        + v / 0x100 % 0x100 * 0x1_0000
+        + v / 0x1_0000 % 0x100 * 0x100
+        + v / 0x100_0000 % 0x100
+}
+
+fn turned_eight(v: u64) -> u64
+    ensures { λ r. ⌜ (r ≡ turnedEight v) × (r < 256 ^ 8) ⌝ }
+{
+    turned_four(v % 0x1_0000_0000) * 0x1_0000_0000 + turned_four(v / 0x1_0000_0000)
 }
 
 fn two_bytes(s: &[u8], order: ByteOrder, p: usize) -> u64
     requires { ⌜ p + 2 ≤ length (now s) ⌝ }
     ensures { λ r. ⌜ (r ≡ numberAt order 0 (now (s .entry)) p 2) × (r < 256 ^ 2) ⌝ }
 {
+    let v = two_here(s, p);
     match order {
-        ByteOrder::BigEndian => two(s[p], s[p + 1]),
-        ByteOrder::LittleEndian => two(s[p + 1], s[p]),
+        ByteOrder::BigEndian => turned_two(v),
+        ByteOrder::LittleEndian => v,
     }
 }
 
@@ -96,22 +144,21 @@ fn four_bytes(s: &[u8], order: ByteOrder, p: usize) -> u64
     requires { ⌜ p + 4 ≤ length (now s) ⌝ }
     ensures { λ r. ⌜ (r ≡ numberAt order 0 (now (s .entry)) p 4) × (r < 256 ^ 4) ⌝ }
 {
+    let v = four_here(s, p);
     match order {
-        ByteOrder::BigEndian => four(s[p], s[p + 1], s[p + 2], s[p + 3]),
-        ByteOrder::LittleEndian => four(s[p + 3], s[p + 2], s[p + 1], s[p]),
+        ByteOrder::BigEndian => turned_four(v),
+        ByteOrder::LittleEndian => v,
     }
 }
 
-// By its two halves.
 fn eight_bytes(s: &[u8], order: ByteOrder, p: usize) -> u64
     requires { ⌜ p + 8 ≤ length (now s) ⌝ }
     ensures { λ r. ⌜ (r ≡ numberAt order 0 (now (s .entry)) p 8) × (r < 256 ^ 8) ⌝ }
 {
-    let first = four_bytes(s, order, p);
-    let second = four_bytes(s, order, p + 4);
+    let v = eight_here(s, p);
     match order {
-        ByteOrder::BigEndian => first * 0x1_0000_0000 + second,
-        ByteOrder::LittleEndian => second * 0x1_0000_0000 + first,
+        ByteOrder::BigEndian => turned_eight(v),
+        ByteOrder::LittleEndian => v,
     }
 }
 

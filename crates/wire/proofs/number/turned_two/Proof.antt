@@ -1,0 +1,19 @@
+use borrow.Author.Needs.{needs}
+use Rattle.wire.specs.Number.{turnedTwo}
+use Rattle.wire.proofs.number.turned_two.Statement.{statement}
+use Rattle.wire.proofs.number.turned_two.Tie as tie
+use Rattle.wire.proofs.number.turned_two.Reads as reads
+use Rattle.wire.proofs.number.turned_two.Lts as lts
+
+mul-result : tie.Need-mul-result
+mul-result c = search needs
+
+add-result : tie.Need-add-result
+add-result c = search needs
+
+returns : tie.Need-returns
+unfolding turnedTwo
+returns c = search needs
+
+pub turned-two-spec : {M : Type 1} → statement M
+turned-two-spec = tie.close (tie.spec mul-result add-result returns)

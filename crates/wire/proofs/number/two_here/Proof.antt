@@ -1,0 +1,26 @@
+use Rattle.wire.proofs.Digits.{le-two, two-bytes}
+use borrow.Author.Needs.{needs}
+use Rattle.wire.proofs.number.two_here.Statement.{statement}
+use Rattle.wire.proofs.number.two_here.Tie as tie
+use Rattle.wire.proofs.number.two_here.Reads as reads
+use Rattle.wire.proofs.number.two_here.Lts as lts
+use Rattle.wire.proofs.number.two.Reads as two-reads
+
+add-two : tie.Need-add-two
+add-two c = search needs
+
+shared-slice-read-two : tie.Need-shared-slice-read-two
+shared-slice-read-two c = search needs
+
+shared-slice-read-two-2 : tie.Need-shared-slice-read-two-2
+shared-slice-read-two-2 c = search needs
+
+two-requires : tie.Need-two-requires
+two-requires c κs = search needs
+
+returns : tie.Need-returns
+returns c = search (needs, le-two, two-bytes)
+
+pub two-here-spec : {M : Type 1} → statement M
+two-here-spec =
+    tie.close (tie.spec add-two shared-slice-read-two shared-slice-read-two-2 two-requires returns)
