@@ -1,5 +1,5 @@
 -- What a string that was read tells: where it stands, and where its units are. Assumes nothing.
-use Prim.Native.Nat.{ℕ, zero, suc, _+_, _-_, _*_, _%_, _/_, _≤_}
+use Prim.Native.Nat.{ℕ, zero, suc, _+_, _-_, _*_, _%_, _/_, _≤_, _<_}
 use mathlib.Core.Path.{_≡_, refl, sym, ap, _∙_}
 use mathlib.Core.Bool.{Bool, true, false}
 use mathlib.Core.List.{List, [], _∷_}
@@ -19,7 +19,7 @@ use Rattle.wire.specs.declared.cursor.Place.{Place}
 use Rattle.wire.specs.declared.cursor.Place.the-variants as place
 use Rattle.wire.specs.declared.number.Number.{Number}
 use Rattle.wire.specs.declared.number.Number.the-variants as number
-use Rattle.wire.proofs.Moves.{seek-inv}
+use Rattle.wire.proofs.Moves.{seek-at, seek-inv}
 use Rattle.wire.proofs.Numbers.{read-inv}
 use Rattle.text.specs.Unicode.{utf8, utf16, restGood}
 use Rattle.text.specs.Text.{part, judged, bytesHere, stringType, Units, short, units, andThen, readUnits, onUnits, unitsHere, wideHere, wstringType}
@@ -244,3 +244,13 @@ module _ (s : List ℕ) (set : Settings) (start n : ℕ) (d : Cursor) where
       let l = units-are s set n (w .1) (w .3 .us) d (after-length s set c (w .0) (w .1) h (w .2)) (w .3 .read) in
       let u : w .3 .us ≡ unitsAt (set .order) s n start = rw (w .3 .starts) at (l .0) in
       (rw u at (w .3 .good), omega (arith, l .1, w .3 .starts))
+
+-- a string that is all there and well-formed, n being its length with the closing byte
+pub string-there : (s : List ℕ) (set : Settings) (c : Cursor) (start n : ℕ) → readNumber s set c 4 ≡ number.Got n (cursorAt start (c .origin)) → 0 < n → start + n ≤ length s → utf8 (part s start (n - 1)) ≡ true
+    → stringType s set c ≡ text.Got start (n - 1) (cursorAt (start + n) (c .origin))
+unfolding stringType bytesHere afterNumber afterMove
+string-there s set c start n e some h good =
+    let a : seekTo s (cursorAt start (c .origin)) (n - 1) ≡ place.At (cursorAt (start + (n - 1)) (c .origin)) = sym (seek-at s (cursorAt start (c .origin)) (n - 1) (omega arith)) in
+    let b : seekTo s (cursorAt (start + (n - 1)) (c .origin)) 1 ≡ place.At (cursorAt (start + (n - 1) + 1) (c .origin)) = sym (seek-at s (cursorAt (start + (n - 1)) (c .origin)) 1 (omega arith)) in
+    let k : start + (n - 1) + 1 ≡ start + n = omega arith in
+    rw (e, a, b, good, k)

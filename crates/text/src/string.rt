@@ -21,7 +21,7 @@ pub enum Text {
 }
 
 // Whether the n bytes from `start` are well-formed.
-fn is_text(s: &[u8], start: usize, n: usize) -> bool
+pub fn is_text(s: &[u8], start: usize, n: usize) -> bool
     requires { ⌜ start + n ≤ length (now s) ⌝ }
     ensures { λ r. ⌜ r ≡ utf8 (part (now (s .entry)) start n) ⌝ }
 {

@@ -82,6 +82,11 @@ le-parts a (suc b) v s p =
     let f : p + a + b ≡ p + (a + b) = omega arith in
     rw (e, f) (le-parts a b (v * 256 + getD s (p + (a + b)) 0) s p)
 
+pub one-byte : (o : ByteOrder) (s : List ℕ) (p : ℕ) → getD s p 0 ≡ numberAt o 0 s p 1
+unfolding numberAt
+one-byte BigEndian s p = omega arith
+one-byte LittleEndian s p = rw (add-zero p) (omega arith)
+
 -- two and four bytes spelt out, and eight by their two halves
 module _ (o : ByteOrder) (s : List ℕ) (p r : ℕ) where
   pub be-two : o ≡ BigEndian → r ≡ getD s p 0 * 256 + getD s (p + 1) 0 → r ≡ numberAt o 0 s p 2

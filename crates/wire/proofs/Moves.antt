@@ -53,6 +53,15 @@ gap-as from a b r e f = rw (← e) f
 pub gap-one : (from a : ℕ) → a ≡ 1 → 0 ≡ gapOf from a
 gap-one from a e = rw e (let h : (1 - from % 1) % 1 < 1 = mod-lt _ (lit< tt) in omega arith)
 
+pub padding-one : (c : Cursor) (a : ℕ) → a ≡ 1 → 0 ≡ paddingOf c a
+unfolding paddingOf
+padding-one c a e = gap-one (c .pos - c .origin) a e
+
+pub alignment-one : (v : Version) → alignmentOf v 1 ≡ 1
+unfolding alignmentOf
+alignment-one Xcdr1 = refl
+alignment-one Xcdr2 = refl
+
 pub gap-below : (from a : ℕ) → 0 < a → gapOf from a < a
 gap-below from a h = mod-lt _ h
 

@@ -4,7 +4,7 @@ use mathlib.Core.Path.{_≡_, refl, sym, ap, _∙_}
 use mathlib.Core.Bool.{true, false}
 use mathlib.Core.List.{List}
 use native.Mathlib.Omega.{arith}
-use lib.ListN.{length}
+use lib.ListN.{length, getD}
 use borrow.Author.Tests.{ne-eqb}
 use native.Mathlib.Nat.{add-zero}
 use Rattle.wire.specs.Place.{cursorAt, moved, alignmentOf, paddingOf, seekTo, alignTo}
@@ -22,8 +22,8 @@ use Rattle.wire.specs.declared.number.Float128.{Float128}
 use Rattle.wire.specs.declared.number.Float128.the-variants as float128
 use Rattle.wire.specs.declared.number.Boolean.{Boolean}
 use Rattle.wire.specs.declared.number.Boolean.the-variants as boolean
-use Rattle.wire.proofs.Moves.{seek-at, seek-inv, align-inv}
-use Rattle.wire.proofs.Digits.{be-words, le-words, low-word, high-word}
+use Rattle.wire.proofs.Moves.{seek-at, seek-inv, align-inv, padding-one, alignment-one}
+use Rattle.wire.proofs.Digits.{one-byte, be-words, le-words, low-word, high-word}
 
 -- where the cursor stands
 module _ (s : List ℕ) (o : ByteOrder) (c : Cursor) (w : ℕ) (r : Place) (is : r ≡ seekTo s c w) where
@@ -163,3 +163,9 @@ read-there s set c w q v e h f =
     let a : seekTo s c (paddingOf c (alignmentOf (set .version) w)) ≡ place.At (cursorAt q (c .origin)) = rw e (sym (seek-at s c (paddingOf c (alignmentOf (set .version) w)) (omega arith))) in
     let b : seekTo s (cursorAt q (c .origin)) w ≡ place.At (cursorAt (q + w) (c .origin)) = sym (seek-at s (cursorAt q (c .origin)) w h) in
     rw (a, b, f)
+
+-- a byte stands where the cursor does
+pub byte-there : (s : List ℕ) (set : Settings) (c : Cursor) → c .pos < length s → readNumber s set c 1 ≡ number.Got (getD s (c .pos) 0) (cursorAt (c .pos + 1) (c .origin))
+unfolding numberAt
+byte-there s set c h =
+    read-there s set c 1 (c .pos) (getD s (c .pos) 0) (let e = padding-one c (alignmentOf (set .version) 1) (alignment-one (set .version)) in omega (arith, e)) (omega arith) (one-byte (set .order) s (c .pos))
