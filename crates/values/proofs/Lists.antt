@@ -70,6 +70,17 @@ module _ (s : List ℕ) (set : Settings) (kind count : ℕ) where
       pub elements-refused : (k : Refusal) → r ≡ Refused k → Done whole n t v (Refused k)
       elements-refused k q = let w = was-refused h q in sofar-refused inv (more i c (room u m) l ∙ then-refused _ (w .is)) (w .filled)
 
+    -- an element that the quick way took, or left alone
+    module _ (v : List ℕ) (r : ℕ) (q : Quickly (scalarOf s set kind i c (room u m)) 1 m (c .origin) u v r) where
+      pub elements-quick : i < count → 0 < r → ElementsSofar whole n t v (i + 1) (cursorAt r (c .origin)) (m + 1)
+      elements-quick l h = elements-turn l v (Read (cursorAt r (c .origin)) (m + 1)) (quick-done 1 r h q) (cursorAt r (c .origin)) (m + 1) refl
+
+      pub elements-left : r ≤ 0 → ElementsSofar whole n t v i c m
+      elements-left h = rw (quick-none _ 1 m (c .origin) u v r h q) inv
+
+      pub elements-next : 0 < r → length t < 2 ^ 64 → Fits w64 (m + 1)
+      elements-next h k = let w = was-read (quick-done 1 r h q) refl in omega (arith, w .count, filled-fits (w .filled), inv .filled .long)
+
     pub elements-end : count ≤ i → Done whole n t u (Read c m)
     elements-end h = sofar-read inv (none i c (room u m) h) (filled-none u m)
 

@@ -1,10 +1,12 @@
 -- Laws of the quick way: what it takes is what `scalarOf` says. Assumes nothing.
-use Prim.Native.Nat.{ℕ, zero, suc, _+_, _*_, _≤_, _<_, _^_}
+use Prim.Native.Nat.{ℕ, zero, suc, _+_, _-_, _*_, _≤_, _<_, _^_}
 use mathlib.Core.Path.{_≡_, refl, sym, ap, _∙_}
 use mathlib.Core.Bool.{Bool, true, false, not, _&&_}
 use mathlib.Core.List.{List, [], _∷_}
 use native.Mathlib.Omega.{arith}
-use lib.ListN.{length}
+use mir.Syntax.{w64}
+use mir.Val.{Fits}
+use lib.ListN.{length, getD}
 use lib.Dec.{T, eqb, leb, leb→le}
 use borrow.Author.Tests.{ne-eqb}
 use Rattle.ground.specs.Choice.{both, _‥_, within}
@@ -14,19 +16,26 @@ use Rattle.wire.specs.declared.cursor.Shortage.{Shortage}
 use Rattle.wire.specs.declared.settings.Settings.{Settings}
 use Rattle.wire.specs.declared.number.Number.{Number}
 use Rattle.wire.specs.declared.number.Number.the-variants as number
-use Rattle.wire.specs.Place.{cursorAt}
-use Rattle.wire.specs.Number.{readNumber, ReadIs}
-use Rattle.wire.proofs.Numbers.{read-inv}
+use Rattle.wire.specs.declared.number.Boolean.{Boolean}
+use Rattle.wire.specs.declared.number.Boolean.the-variants as boolean
+use Rattle.wire.specs.Place.{cursorAt, alignmentOf, paddingOf}
+use Rattle.wire.specs.Number.{numberAt, readNumber, readBoolean, onByte, booleanIn}
+use Rattle.wire.proofs.Numbers.{read-there, byte-there}
+use Rattle.text.specs.declared.string.Text.the-variants as text
+use Rattle.text.specs.Unicode.{utf8}
+use Rattle.text.specs.Text.{part, stringType}
+use Rattle.text.proofs.Places.{string-there}
 use Rattle.kinds.specs.Kinds.{alignOf, storedOf, isPrimitive}
 use Rattle.kinds.proofs.Table.{primitive-align}
+use Rattle.table.specs.declared.rows.Row.{Row}
 use Rattle.table.specs.declared.out.Out.{Out}
 use Rattle.table.specs.declared.out.Out.the-variants.{Read}
 use Rattle.table.specs.Rows.{row, width, room, noRoom, putRow}
 use Rattle.table.specs.Outcome.{Outcome, Done}
 use Rattle.table.proofs.Filling.{full-fits}
 use Rattle.table.proofs.Outcomes.{is-same}
-use Rattle.values.specs.Scalar.{scalarOf, onNumber, rowed, wordOf}
-use Rattle.values.specs.Quick.{isNumber, Quickly}
+use Rattle.values.specs.Scalar.{scalarOf, onNumber, onBoolean, onText, boolWord, rowed, wordOf}
+use Rattle.values.specs.Quick.{isNumber, isTaken, Quickly}
 use Rattle.values.proofs.Scalars.{row-given}
 
 -- what an answer of the quick way tells
@@ -55,6 +64,10 @@ pub quick-zero : (o : Outcome) (k n origin : ℕ) (a : List ℕ) (r : ℕ) → r
 unfolding Quickly
 quick-zero o k n origin a zero h = refl
 quick-zero o k n origin a (suc r) h = absurd (omega arith)
+
+-- one row, at a place that is not the data's first
+quick-row : (o : Outcome) (t : List ℕ) (n origin p : ℕ) (r : Row) → o ≡ rowed (room t n) (cursorAt p origin) r → 0 < p → noRoom t n ≡ false → (u : List ℕ) → u ≡ putRow t n r → Quickly o 1 n origin t u p
+quick-row o t n origin p r e h free u put = quick-is 1 p h (is-same e (row-given t n (noRoom t n) refl (cursorAt p origin) r free u put))
 
 pub free-fits : (t : List ℕ) (n : ℕ) → noRoom t n ≡ false → width * n + width ≤ length t
 free-fits t n e = full-fits t n (noRoom t n) refl e
@@ -115,20 +128,55 @@ module _ (kind : ℕ) (num : isNumber kind ≡ true) where
   pub wide-most : (w : ℕ) → w ≡ alignOf kind → w ≤ 8
   wide-most w e = rw e number-most
 
-  -- a number that was read, and its row
-  module _ (s : List ℕ) (set : Settings) (id : ℕ) (c : Cursor) (t : List ℕ) (n w : ℕ) (wide : w ≡ alignOf kind) (g : Number) (is : ReadIs s set c w g) where
-    pub read-below : (v : ℕ) (d : Cursor) → g ≡ number.Got v d → v < 256 ^ w
-    read-below v d f = rw f at (is .small)
+  pub past-fits : (w q l : ℕ) → w ≡ alignOf kind → q ≤ l + 8 → l * 1 < 2 ^ 63 → Fits w64 (q + w)
+  past-fits w q l e h k = omega (arith, e, number-most)
 
-    pub quick-number : (v : ℕ) (d : Cursor) → g ≡ number.Got v d → (x : ℕ) → x ≡ wordOf kind v → (y : ℕ) → y ≡ storedOf kind → noRoom t n ≡ false → (u : List ℕ) → u ≡ putRow t n (row y id x 0)
-        → Quickly (scalarOf s set kind id c (room t n)) 1 n (c .origin) t u (d .pos)
+  -- a number that is all there, q being where it stands, and its row
+  module _ (s : List ℕ) (set : Settings) (id : ℕ) (c : Cursor) (t : List ℕ) (n w : ℕ) (wide : w ≡ alignOf kind) (q v : ℕ) where
+    pub quick-number : (q + w ≤ length s → q ≡ c .pos + paddingOf c (alignmentOf (set .version) w)) → q + w ≤ length s → v ≡ numberAt (set .order) 0 s q w
+        → (x : ℕ) → x ≡ wordOf kind v → (y : ℕ) → y ≡ storedOf kind → noRoom t n ≡ false → (u : List ℕ) → u ≡ putRow t n (row y id x 0)
+        → Quickly (scalarOf s set kind id c (room t n)) 1 n (c .origin) t u (q + w)
     unfolding onNumber
-    quick-number v d f x word y stored free u put =
-        let z : readNumber s set c w ≡ number.Got v d = sym (is .is) ∙ f in
-        let m = read-inv s set c w v d z in
-        let at : d ≡ cursorAt (d .pos) (c .origin) = ap (cursorAt (d .pos)) (m .kept) in
-        let q : readNumber s set c (alignOf kind) ≡ number.Got v d = rw wide at z in
+    quick-number starts h is x word y stored free u put =
+        let z : readNumber s set c w ≡ number.Got v (cursorAt (q + w) (c .origin)) = read-there s set c w q v (starts h) h is in
+        let k : readNumber s set c (alignOf kind) ≡ number.Got v (cursorAt (q + w) (c .origin)) = rw (← wide) z in
         let p : u ≡ putRow t n (row (storedOf kind) id (wordOf kind v) 0) = rw (stored, word) at put in
-        let h : Done (rowed (room t n) d (row (storedOf kind) id (wordOf kind v) 0)) n t u (Read d (n + 1)) = row-given t n (noRoom t n) refl d _ free u p in
-        let k : Done (scalarOf s set kind id c (room t n)) n t u (Read d (n + 1)) = is-same (number-is s set id c (room t n) ∙ rw q) h in
-        quick-is 1 (d .pos) (omega (arith, m .on, wide, number-some)) (rw at at k)
+        quick-row (scalarOf s set kind id c (room t n)) t n (c .origin) (q + w) (row (storedOf kind) id (wordOf kind v) 0) (number-is s set id c (room t n) ∙ rw k) (omega (arith, wide, number-some)) free u p
+
+-- a boolean's byte, and its row
+booleanOf : (v : ℕ) → v ≤ 1 → (c : Cursor) → (b : Bool) × ((booleanIn v c ≡ boolean.Got b c) × (v ≡ boolWord b))
+unfolding booleanIn boolWord
+booleanOf zero h c = (false, (refl, refl))
+booleanOf (suc zero) h c = (true, (refl, refl))
+booleanOf (suc (suc v)) h c = absurd (omega arith)
+
+module _ (s : List ℕ) (set : Settings) (id : ℕ) (c : Cursor) (t : List ℕ) (n : ℕ) where
+  pub quick-boolean : (v : ℕ) → c .pos < length s → v ≡ getD s (c .pos) 0 → v ≤ 1 → noRoom t n ≡ false → (u : List ℕ) → u ≡ putRow t n (row 1 id v 0)
+      → Quickly (scalarOf s set 1 id c (room t n)) 1 n (c .origin) t u (c .pos + 1)
+  unfolding scalarOf onBoolean readBoolean onByte
+  quick-boolean v h is small free u put =
+      let z : readNumber s set c 1 ≡ number.Got v (cursorAt (c .pos + 1) (c .origin)) = byte-there s set c h ∙ rw is in
+      let b = booleanOf v small (cursorAt (c .pos + 1) (c .origin)) in
+      let e : onBoolean id (room t n) (readBoolean s set c) ≡ rowed (room t n) (cursorAt (c .pos + 1) (c .origin)) (row 1 id v 0) = rw (z, b .1 .0, ← b .1 .1) in
+      quick-row (scalarOf s set 1 id c (room t n)) t n (c .origin) (c .pos + 1) (row 1 id v 0) e (omega arith) free u put
+
+  -- a text that is all there and well-formed, q being where its length stands, and its row
+  pub quick-text : (q v start : ℕ) → (q + 4 ≤ length s → q ≡ c .pos + paddingOf c (alignmentOf (set .version) 4)) → q + 4 ≤ length s → v ≡ numberAt (set .order) 0 s q 4
+      → start ≡ q + 4 → 0 < v → start + v ≤ length s → (good : Bool) → good ≡ utf8 (part s start (v - 1)) → good ≡ true → noRoom t n ≡ false → (u : List ℕ) → u ≡ putRow t n (row 16 id start (v - 1))
+      → Quickly (scalarOf s set 16 id c (room t n)) 1 n (c .origin) t u (start + v)
+  unfolding scalarOf onText
+  quick-text q v start starts h is e some fits good g k' free u put =
+      let z : readNumber s set c 4 ≡ number.Got v (cursorAt start (c .origin)) = rw e (read-there s set c 4 q v (starts h) h is) in
+      let k : stringType s set c ≡ text.Got start (v - 1) (cursorAt (start + v) (c .origin)) = string-there s set c start v z some fits (sym g ∙ k') in
+      quick-row (scalarOf s set 16 id c (room t n)) t n (c .origin) (start + v) (row 16 id start (v - 1)) (rw k) (omega arith) free u put
+
+-- what is taken, by the kind that it is
+module _ (kind k : ℕ) (e : kind ≡ k) where
+  pub quick-kind : (s : List ℕ) (set : Settings) (id : ℕ) (c : Cursor) (room j n origin : ℕ) (a b : List ℕ) (r : ℕ) → Quickly (scalarOf s set k id c room) j n origin a b r → Quickly (scalarOf s set kind id c room) j n origin a b r
+  quick-kind s set id c room j n origin a b r q = rw e q
+
+  pub taken-known : isTaken k ≡ true → isTaken kind ≡ true
+  taken-known h = rw e h
+
+pub none-taken : (r kind : ℕ) → r ≤ 0 → 0 < r → isTaken kind ≡ true
+none-taken r kind h k = absurd (omega arith)

@@ -1,11 +1,11 @@
--- The quick way of reading numbers: what it takes is as the rules say, what it does not take it leaves alone.
+-- The quick way of reading: what it takes is as the rules say, what it does not take it leaves alone.
 use Prim.Native.Nat.{ℕ, zero, suc, _+_, _*_, _≤_, _<_}
 use mathlib.Core.Path.{_≡_}
-use mathlib.Core.Bool.{Bool, not}
+use mathlib.Core.Bool.{Bool, not, _||_}
 use mathlib.Core.List.{List, [], _∷_}
 use lib.ListN.{length}
 use lib.Dec.{eqb}
-use Rattle.ground.specs.Choice.{both, _‥_, within}
+use Rattle.ground.specs.Choice.{both, _‥_, within, among}
 use Rattle.wire.specs.declared.settings.ByteOrder.{ByteOrder}
 use Rattle.wire.specs.Place.{cursorAt}
 use Rattle.wire.specs.Number.{numberAt}
@@ -19,6 +19,10 @@ use Rattle.values.specs.Scalar.{wordOf}
 -- the numbers of up to 8 bytes; a boolean is judged, and CHAR16 is unsupported
 unfoldable pub isNumber : ℕ → Bool
 isNumber kind = both (within (2 ‥ 14) kind) (not (eqb kind 11))
+
+-- what is taken where it stands: a boolean, a number, a text of 8-bit units
+unfoldable pub isTaken : ℕ → Bool
+isTaken kind = isNumber kind || among (1 ∷ 16 ∷ []) kind
 
 -- where the position after it is 0, nothing is done; else the value is, with k rows, and it stands there
 unfoldable pub Quickly : Outcome → ℕ → ℕ → ℕ → List ℕ → List ℕ → ℕ → Type 0

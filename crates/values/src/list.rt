@@ -2,7 +2,9 @@
 ghost use mathlib.Core.Path.{_≡_};
 ghost use Rattle.table.specs.Rows.{room};
 ghost use Rattle.table.specs.Outcome.{Done};
+ghost use Rattle.values.specs.Scalar.{scalarOf};
 ghost use Rattle.values.specs.List.{elementsFrom, listOf, blockOf};
+ghost use Rattle.values.specs.Quick.{Quickly};
 use table::out::Out;
 use table::out::Refusal;
 use table::rows::Row;
@@ -11,6 +13,21 @@ use table::rows::put_row;
 use wire::cursor::Cursor;
 use wire::cursor::Place;
 use wire::settings::Settings;
+
+// The quick way for a list's texts, the most frequent of what is no number.
+fn text(s: &[u8], set: Settings, t: &mut [u64], kind: u8, id: u64, at: Cursor, n: usize) -> usize
+    ensures { λ r. ⌜ Quickly (scalarOf (now (s .entry)) set kind id at (room (now (t .entry)) n)) 1 n (at .origin) (now (t .entry)) (now (t .exit)) r ⌝ }
+{
+    match kind {
+        16 => {
+            if is_full(t, n) {
+                return 0;
+            }
+            crate::quick::string(s, set, t, id, at, n)
+        }
+        _ => 0,
+    }
+}
 
 // The elements, one by one.
 fn each(s: &[u8], set: Settings, t: &mut [u64], kind: u8, count: u64, at: Cursor, n: usize) -> Out
@@ -21,6 +38,13 @@ fn each(s: &[u8], set: Settings, t: &mut [u64], kind: u8, count: u64, at: Cursor
     let mut origin = at.origin;
     let mut m = n;
     while i < count {
+        let past = text(s, set, t, kind, i, Cursor { pos, origin }, m);
+        if 0 < past {
+            pos = past;
+            m += 1;
+            i += 1;
+            continue;
+        }
         match crate::scalar::scalar(s, set, t, kind, i, Cursor { pos, origin }, m) {
             Out::Read(d, k) => {
                 pos = d.pos;

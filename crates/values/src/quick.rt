@@ -1,4 +1,4 @@
-// The quick way: numbers that are there whole, and whose rows have a place. Most members and elements are such. It reads by the same
+// The quick way: numbers, booleans and texts that are there whole, and whose rows have a place. Most members and elements are such. It reads by the same
 // rules as `scalar`, and leaves to that whatever it does not take.
 ghost use mathlib.Core.Path.{_≡_};
 ghost use mathlib.Core.Bool.{true, false};
@@ -8,14 +8,15 @@ ghost use lib.ListN.{length};
 ghost use Rattle.table.specs.Rows.{capacity, room, noRoom, Filled};
 ghost use Rattle.values.specs.Scalar.{scalarOf};
 ghost use Rattle.values.specs.List.{elementsFrom};
-ghost use Rattle.values.specs.Quick.{isNumber, Quickly, rowsFrom, WhereThere};
+ghost use Rattle.values.specs.Quick.{isNumber, isTaken, Quickly, rowsFrom, WhereThere};
 use crate::scalar::word_of;
 use table::rows::Row;
 use table::rows::is_full;
 use table::rows::put_row;
+use text::string::is_text;
 use wire::cursor::Cursor;
 use wire::cursor::Place;
-use wire::number::Number;
+use wire::number::from_bytes;
 use wire::settings::ByteOrder;
 use wire::settings::Settings;
 
@@ -41,19 +42,78 @@ fn number(
     requires { ⌜ (noRoom (now t) n ≡ false) × (isNumber kind ≡ true) × (stored ≡ storedOf kind) × (width ≡ alignOf kind) ⌝ }
     ensures { λ r. ⌜ Quickly (scalarOf (now (s .entry)) set kind id at (room (now (t .entry)) n)) 1 n (at .origin) (now (t .entry)) (now (t .exit)) r ⌝ }
 {
-    match wire::number::read_number(s, set, at, width) {
-        Number::Short(_) => 0,
-        Number::Got(v, c) => {
-            let row = Row {
-                kind: stored,
-                id,
-                a: word_of(kind, width, v),
-                b: 0,
-            };
-            put_row(t, n, row);
-            c.pos
-        }
+    let version = set.version;
+    let order = set.order;
+    let end = s.len();
+    let q = at.start(s, version, width);
+    if end < q + width {
+        return 0;
     }
+    let v = from_bytes(s, order, q, width);
+    let row = Row {
+        kind: stored,
+        id,
+        a: word_of(kind, width, v),
+        b: 0,
+    };
+    put_row(t, n, row);
+    q + width
+}
+
+// A boolean, where it is 0 or 1.
+fn boolean(s: &[u8], set: Settings, t: &mut [u64], id: u64, at: Cursor, n: usize) -> usize
+    requires { ⌜ noRoom (now t) n ≡ false ⌝ }
+    ensures { λ r. ⌜ Quickly (scalarOf (now (s .entry)) set 1 id at (room (now (t .entry)) n)) 1 n (at .origin) (now (t .entry)) (now (t .exit)) r ⌝ }
+{
+    let pos = at.pos;
+    if s.len() <= pos {
+        return 0;
+    }
+    let v = ground::wide(s[pos]);
+    if 1 < v {
+        return 0;
+    }
+    let row = Row {
+        kind: 1,
+        id,
+        a: v,
+        b: 0,
+    };
+    put_row(t, n, row);
+    pos + 1
+}
+
+// A text, where it is well-formed.
+pub fn string(s: &[u8], set: Settings, t: &mut [u64], id: u64, at: Cursor, n: usize) -> usize
+    requires { ⌜ noRoom (now t) n ≡ false ⌝ }
+    ensures { λ r. ⌜ Quickly (scalarOf (now (s .entry)) set 16 id at (room (now (t .entry)) n)) 1 n (at .origin) (now (t .entry)) (now (t .exit)) r ⌝ }
+{
+    let version = set.version;
+    let order = set.order;
+    let end = s.len();
+    let q = at.start(s, version, 4);
+    if end < q + 4 {
+        return 0;
+    }
+    let size = from_bytes(s, order, q, 4) as usize;
+    let start = q + 4;
+    if size == 0 {
+        return 0;
+    }
+    if end - start < size {
+        return 0;
+    }
+    if !is_text(s, start, size - 1) {
+        return 0;
+    }
+    let row = Row {
+        kind: 16,
+        id,
+        a: start as u64,
+        b: (size - 1) as u64,
+    };
+    put_row(t, n, row);
+    start + size
 }
 
 // Takes a value of this kind, and tells the position after it; or 0, and nothing is done. A word, and not an enum, is what a call
@@ -67,12 +127,13 @@ pub fn take(
     at: Cursor,
     n: usize,
 ) -> usize
-    ensures { λ r. ⌜ Quickly (scalarOf (now (s .entry)) set kind id at (room (now (t .entry)) n)) 1 n (at .origin) (now (t .entry)) (now (t .exit)) r ⌝ }
+    ensures { λ r. ⌜ Quickly (scalarOf (now (s .entry)) set kind id at (room (now (t .entry)) n)) 1 n (at .origin) (now (t .entry)) (now (t .exit)) r × (0 < r → isTaken kind ≡ true) ⌝ }
 {
     if is_full(t, n) {
         return 0;
     }
     match kind {
+        1 => boolean(s, set, t, id, at, n),
         2 => number(s, set, t, kind, 13, 1, id, at, n),
         3 => number(s, set, t, kind, 3, 2, id, at, n),
         4 => number(s, set, t, kind, 4, 4, id, at, n),
@@ -85,6 +146,7 @@ pub fn take(
         12 => number(s, set, t, kind, 12, 1, id, at, n),
         13 => number(s, set, t, kind, 13, 1, id, at, n),
         14 => number(s, set, t, kind, 14, 1, id, at, n),
+        16 => string(s, set, t, id, at, n),
         _ => 0,
     }
 }
@@ -108,7 +170,7 @@ fn fill(
     let mut p = pos;
     let mut m = n;
     while i < count {
-        let v = wire::number::from_bytes(s, order, p, width);
+        let v = from_bytes(s, order, p, width);
         let row = Row {
             kind: stored,
             id: i as u64,

@@ -1,11 +1,15 @@
 use Prim.Native.Nat.{_-_}
+use borrow.Author.Needs.{needs}
 use Rattle.wire.specs.Place.{cursorAt}
 use Rattle.table.specs.Rows.{room}
 use Rattle.values.specs.List.{elementsFrom}
-use Rattle.values.proofs.Lists.{ElementsSofar, elements-start, elements-turn, elements-short, elements-refused, elements-end}
-use borrow.Author.Needs.{needs}
+use Rattle.values.proofs.Lists.{ElementsSofar, elements-start, elements-turn, elements-short, elements-refused, elements-end, elements-quick, elements-left, elements-next}
 use Rattle.values.proofs.list.each.Statement.{statement}
 use Rattle.values.proofs.list.each.Tie as tie
+use Rattle.values.proofs.list.each.Reads as reads
+use Rattle.values.proofs.list.each.Lts as lts
+use Rattle.values.proofs.list.text.Reads as text-reads
+use Rattle.values.proofs.scalar.scalar.Reads as scalar-reads
 
 abbrev Inv-loop : tie.InvT-loop
 Inv-loop s set t₀ kind count n i₀ pos₀ origin₀ m₀ t i pos origin m = ElementsSofar s set kind count (elementsFrom s set kind count 0 (cursorAt pos₀ origin₀) (room t₀ n)) n t₀ t i (cursorAt pos origin) m
@@ -14,43 +18,58 @@ abbrev μ-loop : tie.MeasureT-loop
 μ-loop s set t₀ kind count n i₀ pos₀ origin₀ m₀ t i pos origin m = count - i
 
 loop-holds : tie.Need-loop-holds Inv-loop μ-loop
-loop-holds c = search (needs, elements-start, elements-turn, elements-short, elements-refused, elements-end)
+loop-holds c = search (needs, elements-start)
 
-scalar-requires : tie.Need-scalar-requires Inv-loop μ-loop
-scalar-requires c κs = search (needs, elements-start, elements-turn, elements-short, elements-refused, elements-end)
+text-requires : tie.Need-text-requires Inv-loop μ-loop
+text-requires c κs = search needs
 
-enum-known-d : tie.Need-enum-known-d Inv-loop μ-loop
-enum-known-d c = search (needs, elements-start, elements-turn, elements-short, elements-refused, elements-end)
-
-enum-known-x : tie.Need-enum-known-x Inv-loop μ-loop
-enum-known-x c = search (needs, elements-start, elements-turn, elements-short, elements-refused, elements-end)
-
-same-length : tie.Need-same-length Inv-loop μ-loop
-same-length c = search (needs, elements-start, elements-turn, elements-short, elements-refused, elements-end)
-
-returns : tie.Need-returns Inv-loop μ-loop
-returns c = search (needs, elements-start, elements-turn, elements-short, elements-refused, elements-end)
-
-enum-known-k : tie.Need-enum-known-k Inv-loop μ-loop
-enum-known-k c = search (needs, elements-start, elements-turn, elements-short, elements-refused, elements-end)
-
-same-length-2 : tie.Need-same-length-2 Inv-loop μ-loop
-same-length-2 c = search (needs, elements-start, elements-turn, elements-short, elements-refused, elements-end)
-
-returns-2 : tie.Need-returns-2 Inv-loop μ-loop
-returns-2 c = search (needs, elements-start, elements-turn, elements-short, elements-refused, elements-end)
+add-m : tie.Need-add-m Inv-loop μ-loop
+add-m c = elements-next _ _ _ _ _ _ _ _ _ _ _ (c .before .before .before .before .before .before .loop .inv) _ _ (c .before .before .before .text .ensures) (c .if1 .taken) (c .before .before .before .before .before .before .before .before .before .good .1 .1 .0 .0)
 
 add-i : tie.Need-add-i Inv-loop μ-loop
-add-i c = search (needs, elements-start, elements-turn, elements-short, elements-refused, elements-end)
+add-i c = search needs
 
 loop-less : tie.Need-loop-less Inv-loop μ-loop
-loop-less c = search (needs, elements-start, elements-turn, elements-short, elements-refused, elements-end)
+loop-less c = search needs
 
 loop-again : tie.Need-loop-again Inv-loop μ-loop
-loop-again c = search (needs, elements-start, elements-turn, elements-short, elements-refused, elements-end)
+loop-again c = elements-quick _ _ _ _ _ _ _ _ _ _ _ (c .before .before .before .before .before .before .loop .inv) _ _ (c .before .before .before .text .ensures) (c .before .before .before .before .before .loop-test .taken) (c .if1 .taken)
+
+scalar-requires : tie.Need-scalar-requires Inv-loop μ-loop
+scalar-requires c κs = search needs
+
+enum-known-d : tie.Need-enum-known-d Inv-loop μ-loop
+enum-known-d c = search needs
+
+enum-known-x : tie.Need-enum-known-x Inv-loop μ-loop
+enum-known-x c = search needs
+
+same-length : tie.Need-same-length Inv-loop μ-loop
+same-length c = search needs
+
+returns : tie.Need-returns Inv-loop μ-loop
+returns c = elements-short _ _ _ _ _ _ _ _ _ _ _ (elements-left _ _ _ _ _ _ _ _ _ _ _ (c .before .before .before .before .before .before .before .before .before .before .before .before .before .loop .inv) _ _ (c .before .before .before .before .before .before .before .before .before .before .text .ensures) (c .before .before .before .before .before .before .before .if1 .left)) (c .before .before .before .before .before .before .before .before .before .before .before .before .loop-test .taken) _ _ (c .before .before .before .before .before .scalar .ensures) _ (search needs)
+
+enum-known-k : tie.Need-enum-known-k Inv-loop μ-loop
+enum-known-k c = search needs
+
+same-length-2 : tie.Need-same-length-2 Inv-loop μ-loop
+same-length-2 c = search needs
+
+returns-2 : tie.Need-returns-2 Inv-loop μ-loop
+returns-2 c = elements-refused _ _ _ _ _ _ _ _ _ _ _ (elements-left _ _ _ _ _ _ _ _ _ _ _ (c .before .before .before .before .before .before .before .before .before .before .before .before .before .loop .inv) _ _ (c .before .before .before .before .before .before .before .before .before .before .text .ensures) (c .before .before .before .before .before .before .before .if1 .left)) (c .before .before .before .before .before .before .before .before .before .before .before .before .loop-test .taken) _ _ (c .before .before .before .before .before .scalar .ensures) _ (search needs)
+
+add-i-2 : tie.Need-add-i-2 Inv-loop μ-loop
+add-i-2 c = search needs
+
+loop-less-2 : tie.Need-loop-less-2 Inv-loop μ-loop
+loop-less-2 c = search needs
+
+loop-again-2 : tie.Need-loop-again-2 Inv-loop μ-loop
+loop-again-2 c = elements-turn _ _ _ _ _ _ _ _ _ _ _ (elements-left _ _ _ _ _ _ _ _ _ _ _ (c .before .before .before .before .before .before .before .before .before .before .before .before .before .loop .inv) _ _ (c .before .before .before .before .before .before .before .before .before .before .text .ensures) (c .before .before .before .before .before .before .before .if1 .left)) (c .before .before .before .before .before .before .before .before .before .before .before .before .loop-test .taken) _ _ (c .before .before .before .before .before .scalar .ensures) _ _ (search needs)
 
 same-length-3 : tie.Need-same-length-3 Inv-loop μ-loop
-same-length-3 c = search (needs, elements-start, elements-turn, elements-short, elements-refused, elements-end)
+same-length-3 c = search needs
 
 returns-3 : tie.Need-returns-3 Inv-loop μ-loop
 returns-3 c = elements-end _ _ _ _ _ _ _ _ _ _ _ (c .before .loop .inv) (c .loop-test .left)
@@ -62,6 +81,11 @@ each-spec =
     Inv-loop
     μ-loop
     loop-holds
+    text-requires
+    add-m
+    add-i
+    loop-less
+    loop-again
     scalar-requires
     enum-known-d
     enum-known-x
@@ -70,8 +94,8 @@ each-spec =
     enum-known-k
     same-length-2
     returns-2
-    add-i
-    loop-less
-    loop-again
+    add-i-2
+    loop-less-2
+    loop-again-2
     same-length-3
     returns-3)

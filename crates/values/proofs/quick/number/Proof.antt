@@ -1,41 +1,51 @@
-use Rattle.values.proofs.Quickly.{wide-some, wide-most, read-below, quick-number, quick-not, free-fits}
+use Rattle.values.proofs.Quickly.{wide-some, wide-most, quick-number, quick-not, free-fits, past-fits}
 use borrow.Author.Needs.{needs}
 use Rattle.values.proofs.quick.number.Statement.{statement}
 use Rattle.values.proofs.quick.number.Tie as tie
+use Rattle.values.proofs.quick.number.Reads as reads
+use Rattle.values.proofs.quick.number.Lts as lts
+use Rattle.table.proofs.rows.put_row.Reads as put-row-reads
+use Rattle.values.proofs.scalar.word_of.Reads as word-of-reads
+use Rattle.wire.proofs.cursor.Cursor.start.Reads as start-reads
+use Rattle.wire.proofs.number.from_bytes.Reads as from-bytes-reads
 
-read-number-requires : tie.Need-read-number-requires
-read-number-requires c κs = search (needs, wide-some, wide-most, read-below, quick-number, quick-not, free-fits)
+start-requires : tie.Need-start-requires
+start-requires c κs = search (needs, wide-some, wide-most, quick-number, quick-not, free-fits)
 
-enum-told : tie.Need-enum-told
-enum-told c = search needs
-
-enum-known-v : tie.Need-enum-known-v
-enum-known-v c = search needs
-
-word-of-requires : tie.Need-word-of-requires
-word-of-requires c κs = search (needs, wide-some, wide-most, read-below, quick-number, quick-not, free-fits)
-
-put-row-requires : tie.Need-put-row-requires
-put-row-requires c κs = search (needs, wide-some, wide-most, read-below, quick-number, quick-not, free-fits)
+add-if1 : tie.Need-add-if1
+add-if1 c = search (needs, past-fits)
 
 returns : tie.Need-returns
-returns c = search (needs, wide-some, wide-most, read-below, quick-number, quick-not, free-fits)
+returns c = search (needs, wide-some, wide-most, quick-number, quick-not, free-fits)
+
+from-bytes-requires : tie.Need-from-bytes-requires
+from-bytes-requires c κs = search (needs, wide-some, wide-most, quick-number, quick-not, free-fits)
+
+word-of-requires : tie.Need-word-of-requires
+word-of-requires c κs = search (needs, wide-some, wide-most, quick-number, quick-not, free-fits)
+
+put-row-requires : tie.Need-put-row-requires
+put-row-requires c κs = search (needs, wide-some, wide-most, quick-number, quick-not, free-fits)
+
+add-result : tie.Need-add-result
+add-result c = search needs
 
 same-length : tie.Need-same-length
 same-length c = search needs
 
 returns-2 : tie.Need-returns-2
-returns-2 c = search (needs, wide-some, wide-most, read-below, quick-number, quick-not, free-fits)
+returns-2 c = search (needs, wide-some, wide-most, quick-number, quick-not, free-fits)
 
 pub number-spec : {M : Type 1} → statement M
 number-spec =
     tie.close
     (tie.spec
-    read-number-requires
-    enum-told
-    enum-known-v
+    start-requires
+    add-if1
+    returns
+    from-bytes-requires
     word-of-requires
     put-row-requires
-    returns
+    add-result
     same-length
     returns-2)

@@ -1,0 +1,45 @@
+use Rattle.values.proofs.Quickly.{quick-boolean, quick-not, free-fits}
+use borrow.Author.Needs.{needs}
+use Rattle.values.proofs.quick.boolean.Statement.{statement}
+use Rattle.values.proofs.quick.boolean.Tie as tie
+use Rattle.values.proofs.quick.boolean.Reads as reads
+use Rattle.values.proofs.quick.boolean.Lts as lts
+use Rattle.ground.proofs.wide.Reads as wide-reads
+use Rattle.table.proofs.rows.put_row.Reads as put-row-reads
+
+returns : tie.Need-returns
+returns c = search (needs, quick-boolean, quick-not, free-fits)
+
+shared-slice-read-wide : tie.Need-shared-slice-read-wide
+shared-slice-read-wide c = search needs
+
+wide-requires : tie.Need-wide-requires
+wide-requires c κs = search (needs, quick-boolean, quick-not, free-fits)
+
+returns-2 : tie.Need-returns-2
+returns-2 c = search (needs, quick-boolean, quick-not, free-fits)
+
+put-row-requires : tie.Need-put-row-requires
+put-row-requires c κs = search (needs, quick-boolean, quick-not, free-fits)
+
+add-result : tie.Need-add-result
+add-result c = search needs
+
+same-length : tie.Need-same-length
+same-length c = search needs
+
+returns-3 : tie.Need-returns-3
+returns-3 c = search (needs, quick-boolean, quick-not, free-fits)
+
+pub boolean-spec : {M : Type 1} → statement M
+boolean-spec =
+    tie.close
+    (tie.spec
+    returns
+    shared-slice-read-wide
+    wide-requires
+    returns-2
+    put-row-requires
+    add-result
+    same-length
+    returns-3)
