@@ -3,3 +3,4 @@ pub mod Xcdr1Turns
 pub mod Xcdr2Turns
 pub mod Members
 mod Examples
+pub mod Aheads

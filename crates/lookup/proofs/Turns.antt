@@ -121,6 +121,11 @@ rest-done s turn at c t f r is e = go (r .count) (r .some) (r .same)
     go zero h q = absurd (omega arith)
     go (suc m) h q = rw (sym is ∙ e) at q
 
+-- where the first turn settles it, the whole search is settled
+pub seek-done : (s : List ℕ) (turn : Cursor → Turn) (c : Cursor) (f : Seek) → turn c ≡ Done f → seekBy s turn c ≡ f
+unfolding headersIn onTurn
+seek-done s turn c f e = rw e
+
 -- a turn that goes on moves on
 module _ (s : List ℕ) (turn : Cursor → Turn) (moves : (c d : Cursor) → turn c ≡ On d → Moved s c 4 d) where
   pub rest-on : (at c : Cursor) (t : Turn) (d : Cursor) → Rest s turn at c → t ≡ turn c → t ≡ On d → Rest s turn at d
@@ -156,6 +161,13 @@ module _ (s : List ℕ) (turn : Cursor → Turn) (moves : (c d : Cursor) → tur
   -- The definition's count is never used up: any larger one finds the same.
   pub enough : (n : ℕ) (c : Cursor) → length s < n → headersIn n turn c ≡ seekBy s turn c
   enough n c h = either n (suc (length s)) c (omega arith) (omega arith) (omega arith) (omega arith)
+
+  -- where the first turn goes on, the whole search is the search from the next header
+  pub seek-on : (c d : Cursor) → turn c ≡ On d → seekBy s turn c ≡ seekBy s turn d
+  unfolding headersIn onTurn
+  seek-on c d e =
+      let a = moves c d e in
+      rw e (either (length s) (suc (length s)) d (omega arith) (omega arith) (omega arith) (omega arith))
 
   -- a search none of whose headers ends it
   module _ (there : (c : Cursor) → turn c ≡ Done PidNotFound → ⊥) where

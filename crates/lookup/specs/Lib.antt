@@ -3,3 +3,4 @@ pub mod Xcdr1
 pub mod Xcdr2
 pub mod Member
 pub mod Dheader
+pub mod Ahead

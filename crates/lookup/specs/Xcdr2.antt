@@ -28,10 +28,14 @@ unfoldable pub nextintTimes : List ℕ → Settings → ℕ → Cursor → Numbe
 nextintTimes s set unit c = afterNumber number.Short (readNumber s set c 4) (λ n d. number.Got (n * unit) d)
 
 -- "lengths 1, 2, 4, 8, then NEXTINT times 1, 1, 4, 8"
+abbrev pub toldBy : ℕ → ℕ
+toldBy lc = getD (1 ∷ 2 ∷ 4 ∷ 8 ∷ []) lc 0
+
+abbrev pub unitBy : ℕ → ℕ
+unitBy lc = getD (1 ∷ 1 ∷ 4 ∷ 8 ∷ []) (lc - 4) 0
+
 unfoldable pub lengthByLc : List ℕ → Settings → ℕ → Cursor → Number
-lengthByLc s set lc c =
-    pick (ltb lc 4) (number.Got (getD (1 ∷ 2 ∷ 4 ∷ 8 ∷ []) lc 0) c)
-    (nextintTimes s set (getD (1 ∷ 1 ∷ 4 ∷ 8 ∷ []) (lc - 4) 0) c)
+lengthByLc s set lc c = pick (ltb lc 4) (number.Got (toldBy lc) c) (nextintTimes s set (unitBy lc) c)
 
 unfoldable pub lengthOf : List ℕ → Settings → ℕ → Cursor → Number
 lengthOf s set emheader c = lengthByLc s set (lcOf emheader) c

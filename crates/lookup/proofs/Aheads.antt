@@ -1,0 +1,287 @@
+-- The member that comes next: what the searches from two places have in common, and what one header that matches settles. Assumes nothing.
+use Prim.Native.Nat.{ℕ, zero, suc, _+_, _-_, _*_, _%_, _<_, _≤_, _^_}
+use mathlib.Core.Path.{_≡_, refl, sym, ap, _∙_}
+use mathlib.Core.Bool.{Bool, true, false}
+use mathlib.Core.List.{List, [], _∷_}
+use native.Mathlib.Omega.{arith}
+use native.Mathlib.Nat.{mul-le-mul, le-of-lt}
+use lib.ListN.{length, getD}
+use lib.Dec.{eqb, lit<}
+use borrow.Author.Tests.{eq-eqb, ne-eqb, lt-ltb, le-ltb}
+use Rattle.ground.specs.Choice.{both}
+use Rattle.wire.specs.Place.{cursorAt, alignmentOf, paddingOf, seekTo, alignTo, afterMove}
+use Rattle.wire.specs.Number.{numberAt, readNumber, afterNumber}
+use Rattle.wire.specs.declared.settings.Settings.{Settings}
+use Rattle.wire.specs.declared.settings.Version.{Version}
+use Rattle.wire.specs.declared.settings.Version.the-variants.{Xcdr1, Xcdr2}
+use Rattle.wire.specs.declared.cursor.Cursor.{Cursor}
+use Rattle.wire.specs.declared.cursor.Place.the-variants as place
+use Rattle.wire.specs.declared.number.Number.the-variants as number
+use Rattle.wire.proofs.Moves.{seek-at, alignment-own, padding-by}
+use Rattle.wire.proofs.Numbers.{Moved, read-aligned}
+use Rattle.lookup.specs.Search.{pastValue, seekBy}
+use Rattle.lookup.specs.Xcdr1 as xcdr1
+use Rattle.lookup.specs.Xcdr2 as xcdr2
+use Rattle.lookup.specs.Member.{locatedV1, locatedV2, lookedUp, locate}
+use Rattle.lookup.specs.Ahead.{searched, Leads, NextIs, aheadOf, AheadAt, AheadIs, valueAt, HeadAt, LongHead, PassedTo}
+use Rattle.lookup.specs.declared.search.Seek.{Seek}
+use Rattle.lookup.specs.declared.search.Seek.the-variants.{Found, PidNotFound, Short}
+use Rattle.lookup.specs.declared.search.Turn.{Turn}
+use Rattle.lookup.specs.declared.search.Turn.the-variants.{Done, On}
+use Rattle.lookup.specs.declared.member.Located.the-variants as located
+use Rattle.lookup.specs.declared.xcdr1.Header.the-variants as header
+use Rattle.lookup.specs.declared.ahead.Ahead.{Ahead}
+use Rattle.lookup.proofs.Turns.{seek-done, seek-on}
+use Rattle.lookup.proofs.Xcdr1Turns as turns1
+use Rattle.lookup.proofs.Xcdr2Turns as turns2
+
+-- one header, in the version's own way, and the search by it
+turnBy : List ℕ → Settings → Version → ℕ → Cursor → Turn
+turnBy s set Xcdr1 id c = xcdr1.turnAt s set id c
+turnBy s set Xcdr2 id c = xcdr2.turnAt s set id c
+
+module _ (s : List ℕ) (set : Settings) where
+  by-turns : (v : Version) (id : ℕ) (c : Cursor) → searched s set v id c ≡ seekBy s (turnBy s set v id) c
+  unfolding searched turnBy xcdr1.seekToPid xcdr2.seekToPid
+  by-turns Xcdr1 id c = refl
+  by-turns Xcdr2 id c = refl
+
+  moves-by : (v : Version) (id : ℕ) (c d : Cursor) → turnBy s set v id c ≡ On d → Moved s c 4 d
+  unfolding turnBy
+  moves-by Xcdr1 id c d e = turns1.turn-moves s set id c d e
+  moves-by Xcdr2 id c d e = turns2.turn-moves s set id c d e
+
+  by-turn1 : (v : Version) (id : ℕ) (c : Cursor) → v ≡ Xcdr1 → turnBy s set v id c ≡ xcdr1.turnAt s set id c
+  unfolding turnBy
+  by-turn1 v id c e = rw e
+
+  by-turn2 : (v : Version) (id : ℕ) (c : Cursor) → v ≡ Xcdr2 → turnBy s set v id c ≡ xcdr2.turnAt s set id c
+  unfolding turnBy
+  by-turn2 v id c e = rw e
+
+-- a search from the one place is a search from the other
+module _ (s : List ℕ) (set : Settings) where
+  pub lead-refl : (c : Cursor) (n : ℕ) → Leads s set c c n
+  unfolding Leads
+  lead-refl c n id l h = refl
+
+  pub lead-trans : (a b c : Cursor) (m n : ℕ) → Leads s set a b m → Leads s set b c n → m ≤ n → Leads s set a c n
+  unfolding Leads
+  lead-trans a b c m n f g h id l k = f id (omega arith) k ∙ g id l k
+
+-- what a header settles: it is the wanted one's, and for every later id it is passed over
+module _ (s : List ℕ) (set : Settings) (id : ℕ) (at y : Cursor) (n : ℕ) (kept : y .origin ≡ at .origin) (miss : (w : ℕ) → id + 1 ≤ w → w < 2 ^ 16 → turnBy s set (set .version) w at ≡ pastValue s set y n) where
+  next-is : (next : ℕ) → PassedTo s y n next → NextIs s set id at next
+  unfolding NextIs PassedTo Leads
+  next-is zero p = tt
+  next-is (suc q) p = λ w l k.
+      by-turns s set (set .version) w at
+      ∙ seek-on s (turnBy s set (set .version) w) (moves-by s set (set .version) w) at (cursorAt (suc q) (at .origin)) (miss w l k ∙ p set ∙ ap (λ (o : ℕ). On (cursorAt (suc q) o)) kept)
+      ∙ sym (by-turns s set (set .version) w (cursorAt (suc q) (at .origin)))
+
+  settled : (value next : ℕ) → turnBy s set (set .version) id at ≡ Done (Found n (cursorAt value (at .origin))) → 0 < n → PassedTo s y n next → AheadAt s set id at n next value
+  unfolding AheadAt
+  settled zero next hit some p = tt
+  settled (suc v) next hit some p =
+      (by-turns s set (set .version) id at ∙ seek-done s (turnBy s set (set .version) id) at _ hit, some, next-is next p)
+
+  made : (value next : ℕ) (r : Ahead) → r ≡ aheadOf value n next → turnBy s set (set .version) id at ≡ Done (Found n (cursorAt value (at .origin))) → 0 < n → PassedTo s y n next → AheadIs s set id at r
+  unfolding AheadIs
+  made value next r e hit some p = rw e (settled value next hit some p)
+
+-- past a value: the alignment to 4 is the same in both versions
+align4 : (v : Version) → alignmentOf v 4 ≡ 4
+unfolding alignmentOf
+align4 Xcdr1 = refl
+align4 Xcdr2 = refl
+
+module _ (s : List ℕ) (pos n origin : ℕ) where
+  pub passed-none : PassedTo s (cursorAt pos origin) n 0
+  unfolding PassedTo
+  passed-none = tt
+
+  passed-on : (set : Settings) (p : ℕ) → p ≡ (4 - (pos + n - origin) % 4) % 4 → pos + n + p ≤ length s → pastValue s set (cursorAt pos origin) n ≡ On (cursorAt (pos + n + p) origin)
+  unfolding pastValue afterMove alignTo paddingOf
+  passed-on set p e h =
+      let a : seekTo s (cursorAt pos origin) n ≡ place.At (cursorAt (pos + n) origin) = sym (seek-at s (cursorAt pos origin) n (omega arith)) in
+      let b : seekTo s (cursorAt (pos + n) origin) p ≡ place.At (cursorAt (pos + n + p) origin) = sym (seek-at s (cursorAt (pos + n) origin) p h) in
+      rw (a, align4 (set .version), ← e, b)
+
+  pub passed-to : (p : ℕ) → p ≡ (4 - (pos + n - origin) % 4) % 4 → pos + n + p ≤ length s → PassedTo s (cursorAt pos origin) n (pos + n + p)
+  unfolding PassedTo
+  passed-to p e h = go (pos + n + p) refl
+    where
+      go : (q : ℕ) → pos + n + p ≡ q → PassedTo s (cursorAt pos origin) n q
+      go zero f = tt
+      go (suc q) f = λ set. passed-on set p e h ∙ ap (λ (x : ℕ). On (cursorAt x origin)) f
+
+-- a header that stands with no padding before it
+module _ (s : List ℕ) (set : Settings) (pos origin : ℕ) (head : HeadAt s pos origin) where
+  no-padding : paddingOf (cursorAt pos origin) 4 ≡ 0
+  unfolding paddingOf
+  no-padding = rw (head .aligned)
+
+  read4 : readNumber s set (cursorAt pos origin) 4 ≡ number.Got (numberAt (set .order) 0 s pos 4) (cursorAt (pos + 4) origin)
+  read4 = read-aligned s set (cursorAt pos origin) 4 (rw (align4 (set .version)) no-padding) (head .inside)
+
+  -- where NEXTINT is there too, it stands so as well
+  nextint-head : 4 ≤ length s - (pos + 4) → HeadAt s (pos + 4) origin
+  nextint-head h = let a = head .after in let b = head .aligned in let i = head .inside in
+      record { after = omega arith; aligned = omega arith; inside = omega arith }
+
+-- an XCDR2 header
+module _ (s : List ℕ) (set : Settings) (pos origin : ℕ) (head : HeadAt s pos origin) (version : set .version ≡ Xcdr2) (v : ℕ) (is : v ≡ numberAt (set .order) 0 s pos 4) where
+  module _ (n : ℕ) (y : Cursor) (told : xcdr2.lengthOf s set v (cursorAt (pos + 4) origin) ≡ number.Got n y) where
+    turned2 : (w : ℕ) → xcdr2.turnAt s set w (cursorAt pos origin) ≡ xcdr2.judged s set w v n y
+    unfolding xcdr2.turnAt afterNumber
+    turned2 w = rw (read4 s set pos origin head, ← is, told)
+
+    judged2 : (w : ℕ) → turnBy s set (set .version) w (cursorAt pos origin) ≡ xcdr2.judged s set w v n y
+    judged2 w = by-turn2 s set (set .version) w (cursorAt pos origin) version ∙ turned2 w
+
+    ahead2 : (value next : ℕ) (r : Ahead) → r ≡ aheadOf value n next → xcdr2.steppedBack (xcdr2.lcOf v) y ≡ cursorAt value origin → y .origin ≡ origin → 0 < n → PassedTo s y n next → AheadIs s set (xcdr2.idOf v) (cursorAt pos origin) r
+    unfolding xcdr2.judged
+    ahead2 value next r e back kept some p =
+        made s set (xcdr2.idOf v) (cursorAt pos origin) y n kept (λ w l k. judged2 w ∙ (rw (ne-eqb (xcdr2.idOf v) w (omega arith)))) value next r e
+        (judged2 (xcdr2.idOf v) ∙ (rw (eq-eqb (xcdr2.idOf v) (xcdr2.idOf v) refl, back))) some p
+
+  -- a length code below 4 tells the length
+  pub ahead-told : (lc n next id : ℕ) → lc ≡ xcdr2.lcOf v → lc < 4 → n ≡ xcdr2.toldBy lc → 0 < n → xcdr2.idOf v ≡ id → PassedTo s (cursorAt (pos + 4) origin) n next
+      → (r : Ahead) → r ≡ aheadOf (pos + 4) n next → AheadIs s set id (cursorAt pos origin) r
+  unfolding xcdr2.lengthOf xcdr2.lengthByLc xcdr2.steppedBack
+  ahead-told lc n next id c l e some i p r f =
+      rw (← i) (ahead2 n (cursorAt (pos + 4) origin) (rw (← c, lt-ltb _ _ l, ← e)) (pos + 4) next r f (rw (← c, ne-eqb lc 5 (omega arith))) refl some p)
+
+-- a length code from 4 on has it in NEXTINT
+module _ (s : List ℕ) (set : Settings) (v pos origin : ℕ) (long : LongHead s set v pos origin) (there : 4 ≤ length s - (pos + 4)) (m u : ℕ) (is : m ≡ numberAt (set .order) 0 s (pos + 4) 4) (unit : u ≡ xcdr2.unitBy (xcdr2.lcOf v)) (some : m * u ≡ 0 → ⊥) where
+  told-long : xcdr2.lengthOf s set v (cursorAt (pos + 4) origin) ≡ number.Got (m * u) (cursorAt (pos + 4 + 4) origin)
+  unfolding xcdr2.lengthOf xcdr2.lengthByLc xcdr2.nextintTimes afterNumber
+  told-long = rw (le-ltb _ _ (long .code), read4 s set (pos + 4) origin (nextint-head s set pos origin (long .head) there), ← is, ← unit)
+
+  pub ahead-back : (next : ℕ) → xcdr2.lcOf v ≡ 5 → PassedTo s (cursorAt (pos + 4 + 4) origin) (m * u) next
+      → (r : Ahead) → r ≡ aheadOf (pos + 4) (m * u) next → AheadIs s set (xcdr2.idOf v) (cursorAt pos origin) r
+  unfolding xcdr2.steppedBack
+  ahead-back next five p r f =
+      let e : pos + 4 + 4 - 4 ≡ pos + 4 = omega arith in
+      ahead2 s set pos origin (long .head) (long .version) v (long .is) (m * u) _ told-long (pos + 4) next r f (rw (eq-eqb (xcdr2.lcOf v) 5 five) (ap (λ (x : ℕ). cursorAt x origin) e)) refl (omega arith) p
+
+  pub ahead-long : (next : ℕ) → (xcdr2.lcOf v ≡ 5 → ⊥) → PassedTo s (cursorAt (pos + 4 + 4) origin) (m * u) next
+      → (r : Ahead) → r ≡ aheadOf (pos + 4 + 4) (m * u) next → AheadIs s set (xcdr2.idOf v) (cursorAt pos origin) r
+  unfolding xcdr2.steppedBack
+  ahead-long next other p r f =
+      ahead2 s set pos origin (long .head) (long .version) v (long .is) (m * u) _ told-long (pos + 4 + 4) next r f (rw (ne-eqb (xcdr2.lcOf v) 5 other)) refl (omega arith) p
+
+-- eight times a u32 is far from what a word holds
+pub long-fits : (m u : ℕ) → m < 256 ^ 4 → u ≤ 8 → m * u < 2 ^ 64
+long-fits m u h k = omega (arith, mul-le-mul (le-of-lt h) k)
+
+-- a value that is not empty is not the end
+not-end : (id n : ℕ) → (n ≡ 0 → ⊥) → xcdr1.isEnd id n ≡ false
+not-end id n h = rw (ne-eqb n 0 h) (go (eqb id 0x3F02))
+  where
+    go : (t : Bool) → both t false ≡ false
+    go true = refl
+    go false = refl
+
+-- an XCDR1 header: what is aligned to 4 is to 2
+module _ (s : List ℕ) (set : Settings) (pos origin : ℕ) (head : HeadAt s pos origin) (version : set .version ≡ Xcdr1) where
+  read2 : (p : ℕ) → (p - origin) % 2 ≡ 0 → p + 2 ≤ length s → readNumber s set (cursorAt p origin) 2 ≡ number.Got (numberAt (set .order) 0 s p 2) (cursorAt (p + 2) origin)
+  read2 p e h = read-aligned s set (cursorAt p origin) 2 (padded (set .version) version) h
+    where
+      padded : (v : Version) → v ≡ Xcdr1 → paddingOf (cursorAt p origin) (alignmentOf v 2) ≡ 0
+      padded v f = rw (← (alignment-own v 2 f), ← (padding-by (cursorAt p origin) 2 2 refl), e)
+
+  header1 : xcdr1.headerAt s set (cursorAt pos origin) ≡ header.Got (numberAt (set .order) 0 s pos 2 % 16384) (numberAt (set .order) 0 s (pos + 2) 2) (cursorAt (pos + 4) origin)
+  unfolding xcdr1.headerAt afterNumber
+  header1 =
+      let a = head .after in
+      let b = head .aligned in
+      let i = head .inside in
+      let e : pos + 2 + 2 ≡ pos + 4 = omega arith in
+      rw (read2 pos (omega arith) (omega arith), read2 (pos + 2) (omega arith) (omega arith), e)
+
+  module _ (v n : ℕ) (is : v ≡ numberAt (set .order) 0 s pos 2) (told : n ≡ numberAt (set .order) 0 s (pos + 2) 2) where
+    turned1 : (w : ℕ) → xcdr1.turnAt s set w (cursorAt pos origin) ≡ xcdr1.judged s set w (v % 16384) n (cursorAt (pos + 4) origin)
+    unfolding xcdr1.turnAt xcdr1.onHeader
+    turned1 w = rw (header1, ← is, ← told)
+
+    judged1 : (w : ℕ) → turnBy s set (set .version) w (cursorAt pos origin) ≡ xcdr1.judged s set w (v % 16384) n (cursorAt (pos + 4) origin)
+    judged1 w = by-turn1 s set (set .version) w (cursorAt pos origin) version ∙ turned1 w
+
+    pub ahead1 : (id next : ℕ) → v % 16384 ≡ id → (n ≡ 0 → ⊥) → PassedTo s (cursorAt (pos + 4) origin) n next
+        → (r : Ahead) → r ≡ aheadOf (pos + 4) n next → AheadIs s set id (cursorAt pos origin) r
+    unfolding xcdr1.judged
+    ahead1 id next e some p r f =
+        let on : xcdr1.isEnd (v % 16384) n ≡ false = not-end (v % 16384) n some in
+        made s set id (cursorAt pos origin) (cursorAt (pos + 4) origin) n refl
+        (λ w l k. judged1 w ∙ (rw (on, ne-eqb (v % 16384) (w % 65536) (omega arith)))) (pos + 4) next r f
+        (judged1 id ∙ (rw (on, eq-eqb (v % 16384) (id % 65536) (omega arith)))) (omega arith) p
+
+-- nothing is said, or the same under the wanted id's own name
+pub ahead-none : (s : List ℕ) (set : Settings) (id : ℕ) (at : Cursor) (r : Ahead) → r ≡ aheadOf 0 0 0 → AheadIs s set id at r
+unfolding AheadIs AheadAt
+ahead-none s set id at r e = rw e tt
+
+pub ahead-same : (s : List ℕ) (set : Settings) (id wanted : ℕ) (at : Cursor) (r : Ahead) → id ≡ wanted → AheadIs s set id at r → AheadIs s set wanted at r
+ahead-same s set id wanted at r e h = rw e at h
+
+-- the lengths and the units by the length code
+pub told-last : (lc : ℕ) → lc < 4 → (lc ≡ 0 → ⊥) → (lc ≡ 1 → ⊥) → (lc ≡ 2 → ⊥) → _≡_ {A = ℕ} 8 (xcdr2.toldBy lc)
+told-last lc h a b c = let e : lc ≡ 3 = omega arith in rw e
+
+pub unit-at : (lc k u : ℕ) → lc ≡ k → u ≡ xcdr2.unitBy k → u ≡ xcdr2.unitBy lc
+unit-at lc k u e f = rw e f
+
+pub unit-one : (lc : ℕ) → lc < 8 → (lc ≡ 6 → ⊥) → (lc ≡ 7 → ⊥) → _≡_ {A = ℕ} 1 (xcdr2.unitBy lc)
+unit-one lc h a b = go (lc - 4) (omega arith)
+  where
+    go : (k : ℕ) → k < 2 → _≡_ {A = ℕ} 1 (getD (1 ∷ 1 ∷ 4 ∷ 8 ∷ []) k 0)
+    go zero l = refl
+    go (suc zero) l = refl
+    go (suc (suc k)) l = absurd (omega arith)
+
+-- where a found value is read
+module _ (version : Version) (pos origin : ℕ) (r : Cursor) where
+  pub value1 : version ≡ Xcdr1 → r ≡ cursorAt pos pos → r ≡ valueAt version pos origin
+  unfolding valueAt
+  value1 v e = rw v e
+
+  pub value2 : version ≡ Xcdr2 → r ≡ cursorAt pos origin → r ≡ valueAt version pos origin
+  unfolding valueAt
+  value2 v e = rw v e
+
+-- what the callers have of it: the lookup, and the place to ask for the next member
+module _ (s : List ℕ) (set : Settings) where
+  looked : (ver : Version) (id n v o : ℕ) (back : Cursor) → searched s set ver id back ≡ Found n (cursorAt v o) → 0 < n → lookedUp s set ver id back ≡ located.Found n (valueAt ver v o) back
+  unfolding searched lookedUp locatedV1 locatedV2 valueAt
+  looked Xcdr1 id n v o back e h = rw (e, lt-ltb _ _ h)
+  looked Xcdr2 id n v o back e h = rw e
+
+  pub ahead-located : (id least v : ℕ) (c back at : Cursor) (r : Ahead) → alignTo s (set .version) c 4 ≡ place.At back → Leads s set back at least → least ≤ id → id < 2 ^ 16
+      → AheadIs s set id at r → r .value ≡ suc v → locate s set id c ≡ located.Found (r .length) (valueAt (set .version) (suc v) (at .origin)) back
+  unfolding locate afterMove Leads AheadIs AheadAt
+  ahead-located id least v c back at r e leads l k is some =
+      let a = rw some at is in
+      rw e (looked (set .version) id (r .length) (suc v) (at .origin) back (leads id l k ∙ a .0) (a .1))
+
+  pub ahead-next : (id least v q : ℕ) (back at : Cursor) (r : Ahead) → Leads s set back at least → least ≤ id + 1 → AheadIs s set id at r → r .value ≡ suc v → r .next ≡ suc q
+      → Leads s set back (cursorAt (suc q) (at .origin)) (id + 1)
+  unfolding AheadIs AheadAt NextIs
+  ahead-next id least v q back at r leads l is some known =
+      let a = rw (some, known) at is in
+      lead-trans s set back at (cursorAt (suc q) (at .origin)) least (id + 1) leads (a .2) l
+
+  by-v1 : (ver : Version) (id : ℕ) (a b : Cursor) → ver ≡ Xcdr1 → searched s set ver id a ≡ searched s set ver id b → xcdr1.seekToPid s set id a ≡ xcdr1.seekToPid s set id b
+  unfolding searched
+  by-v1 ver id a b v e = rw v at e
+
+  pub lead-sentinel : (from to : Cursor) (least : ℕ) → set .version ≡ Xcdr1 → Leads s set from to least → least ≤ 0x3F02 → xcdr1.seekToSentinel s set from ≡ xcdr1.seekToSentinel s set to
+  unfolding Leads xcdr1.seekToSentinel xcdr1.standing
+  lead-sentinel from to least v leads l =
+      let e = by-v1 (set .version) 0x3F02 from to v (leads 0x3F02 l (lit< tt)) in
+      rw e (go (xcdr1.seekToPid s set 0x3F02 to) refl)
+    where
+      go : (f : Seek) → xcdr1.seekToPid s set 0x3F02 to ≡ f → xcdr1.standing from f ≡ xcdr1.standing to f
+      go (Found n d) e = refl
+      go (Short x) e = refl
+      go PidNotFound e = absurd (turns1.sentinel-never-missing s set to e)
