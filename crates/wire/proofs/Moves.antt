@@ -53,6 +53,10 @@ gap-as from a b r e f = rw (← e) f
 pub gap-one : (from a : ℕ) → a ≡ 1 → 0 ≡ gapOf from a
 gap-one from a e = rw e (let h : (1 - from % 1) % 1 < 1 = mod-lt _ (lit< tt) in omega arith)
 
+pub padding-by : (c : Cursor) (a k : ℕ) → a ≡ k → gapOf (c .pos - c .origin) k ≡ paddingOf c a
+unfolding paddingOf
+padding-by c a k e = gap-by (c .pos - c .origin) a k e
+
 pub padding-one : (c : Cursor) (a : ℕ) → a ≡ 1 → 0 ≡ paddingOf c a
 unfolding paddingOf
 padding-one c a e = gap-one (c .pos - c .origin) a e
