@@ -4,3 +4,4 @@ pub mod Xcdr2Turns
 pub mod Members
 mod Examples
 pub mod Aheads
+pub mod Hints

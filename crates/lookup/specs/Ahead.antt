@@ -4,7 +4,10 @@ use Prim.Native.Nat.{ℕ, zero, suc, _+_, _-_, _%_, _≤_, _<_, _^_}
 use mathlib.Core.Path.{_≡_}
 use mathlib.Core.List.{List}
 use lib.ListN.{length}
-use Rattle.wire.specs.Place.{cursorAt}
+use lib.Dec.{eqb}
+use Rattle.ground.specs.Choice.{pick}
+use Rattle.wire.specs.Place.{cursorAt, alignTo}
+use Rattle.wire.specs.declared.cursor.Place.the-variants as place
 use Rattle.wire.specs.Number.{numberAt}
 use Rattle.wire.specs.declared.settings.Settings.{Settings}
 use Rattle.wire.specs.declared.settings.Version.{Version}
@@ -17,6 +20,9 @@ use Rattle.lookup.specs.declared.search.Seek.{Seek}
 use Rattle.lookup.specs.declared.search.Seek.the-variants.{Found}
 use Rattle.lookup.specs.declared.search.Turn.the-variants.{On}
 use Rattle.lookup.specs.declared.ahead.Ahead.{Ahead}
+use Rattle.lookup.specs.declared.ahead.Hint.{Hint}
+use Rattle.lookup.specs.Member.{locate}
+use Rattle.lookup.specs.declared.member.Located.the-variants as located
 
 -- the version's own search
 unfoldable pub searched : List ℕ → Settings → Version → ℕ → Cursor → Seek
@@ -66,3 +72,17 @@ pub record LongHead (s : List ℕ) (set : Settings) (emheader pos origin : ℕ) 
 unfoldable pub PassedTo : List ℕ → Cursor → ℕ → ℕ → Type 0
 PassedTo s c n zero = Unit {0}
 PassedTo s c n (suc q) = (set : Settings) → pastValue s set c n ≡ On (cursorAt (suc q) (c .origin))
+
+-- a search from the structure's start is one from where the hint says
+unfoldable pub Led : List ℕ → Settings → Cursor → ℕ → Hint → Type 0
+Led s set back origin h = Leads s set back (cursorAt (h .next) origin) (h .least)
+
+-- the hint after a member that was found
+unfoldable pub ledOn : Hint → Ahead → ℕ → Hint
+ledOn h a id = pick (eqb (a .next) 0) h (record { next = a .next; least = id + 1 })
+
+-- what it tells to be asked where a hint says: 0 tells nothing, else the member is found there, and the hint after it is true
+pub record Sought (s : List ℕ) (set : Settings) (id : ℕ) (h : Hint) (origin : ℕ) (r : Ahead) : Type 0 where
+  pub small : 0 < r .value → id < 2 ^ 16
+  pub found : (back : Cursor) → alignTo s (set .version) back 4 ≡ place.At back → Led s set back origin h → 0 < r .value → locate s set id back ≡ located.Found (r .length) (valueAt (set .version) (r .value) origin) back
+  pub on : (back : Cursor) → Led s set back origin h → 0 < r .value → Led s set back origin (ledOn h r id)

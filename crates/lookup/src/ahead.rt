@@ -1,10 +1,10 @@
 // The member that comes next. Members mostly stand in the order of their ids, so the header after the last one found is asked first;
 // where it is the wanted one, no search from the structure's start is needed. Whoever is told 0 searches as ever, so this stays narrow.
 ghost use mathlib.Core.Path.{_≡_};
-ghost use Prim.Native.Nat.{_≤_, _<_};
+ghost use Prim.Native.Nat.{_≤_, _<_, _^_};
 ghost use lib.ListN.{length};
 ghost use Rattle.wire.specs.Place.{cursorAt};
-ghost use Rattle.lookup.specs.Ahead.{aheadOf, AheadIs, valueAt, HeadAt, LongHead, PassedTo};
+ghost use Rattle.lookup.specs.Ahead.{aheadOf, AheadIs, Sought, ledOn, valueAt, HeadAt, LongHead, PassedTo};
 ghost use Rattle.lookup.specs.Xcdr2.{idOf, toldBy, unitBy};
 use wire::cursor::Cursor;
 use wire::settings::Settings;
@@ -177,5 +177,39 @@ pub fn value_at(version: Version, pos: usize, origin: usize) -> Cursor
     match version {
         Version::Xcdr1 => Cursor::new(pos, pos),
         Version::Xcdr2 => Cursor::new(pos, origin),
+    }
+}
+
+// Where the next header is looked for: a search for an id from `least` on, from the structure's start, is a search from `next`.
+pub struct Hint {
+    pub next: usize,
+    pub least: u32,
+}
+
+// The wanted member, if its header is where the hint says.
+pub fn sought(s: &[u8], set: Settings, wanted: u32, h: Hint, origin: usize) -> Ahead
+    ensures { λ r. ⌜ Sought (now (s .entry)) set wanted h origin r ⌝ }
+{
+    if wanted < h.least {
+        return none();
+    }
+    if 65535 < wanted {
+        return none();
+    }
+    let next = h.next;
+    look(s, set, wanted, Cursor::new(next, origin))
+}
+
+// The hint after a member that was found. Where the next header is not known, the old one is as true as before.
+pub fn onward(h: Hint, found: Ahead, wanted: u32) -> Hint
+    requires { ⌜ wanted < 2 ^ 16 ⌝ }
+    ensures { λ r. ⌜ r ≡ ledOn h found wanted ⌝ }
+{
+    if found.next == 0 {
+        return h;
+    }
+    Hint {
+        next: found.next,
+        least: wanted + 1,
     }
 }

@@ -7,13 +7,13 @@ use Rattle.wire.specs.declared.settings.Settings.{Settings}
 use Rattle.wire.specs.declared.settings.Version.{Version}
 use Rattle.book.specs.Types.{BookType, Member}
 use Rattle.book.specs.Places.{typesBy}
-use Rattle.table.specs.Outcome.{Outcome}
+use Rattle.table.specs.Outcome.{Outcome, andThen}
 use Rattle.choice.specs.declared.discriminator.Discriminator.{Discriminator}
 use Rattle.reader.specs.Value.{Nest, openedFrom, elementsOf, listValue, valueOf}
 use Rattle.reader.specs.Member.{foundOf, mmemberOf, optionalBy, fmemberOf}
-use Rattle.reader.specs.Structure.{fmembersOf, mmembersOf, mstructBy}
+use Rattle.reader.specs.Structure.{fmembersOf, mmembersOf, endedBy}
 use Rattle.reader.specs.Union.{onDiscriminator, membersBy}
-use Rattle.reader.specs.Nested.{bodyOf, nestedAt}
+use Rattle.reader.specs.Nested.{bodyOf, severalOf, nestedAt}
 
 module _ (book index s : List ℕ) (set : Settings) (d : ℕ) where
   abbrev pub nest : Nest
@@ -43,14 +43,14 @@ module _ (book index s : List ℕ) (set : Settings) (d : ℕ) where
   abbrev pub fmemberIn : Member → Cursor → ℕ → Outcome
   fmemberIn = fmemberOf (typesBy book index) s set nest
 
-  abbrev pub fstructIn : BookType → Cursor → ℕ → Outcome
-  fstructIn t c room = fmembersOf (typesBy book index) s set nest t (t .members) c room
+  abbrev pub fmembersIn : BookType → Cursor → ℕ → Outcome
+  fmembersIn t c room = fmembersOf (typesBy book index) s set nest t (t .members) c room
 
-  abbrev pub membersIn : BookType → Cursor → ℕ → Outcome
-  membersIn t c room = mmembersOf (typesBy book index) s set nest (t .members) c room
+  abbrev pub mmembersIn : BookType → ℕ → Cursor → ℕ → Outcome
+  mmembersIn t end c room = andThen (mmembersOf (typesBy book index) s set nest (t .members) c room) (λ e used. endedBy s set (set .version) end e)
 
-  abbrev pub mstructIn : Version → BookType → Cursor → ℕ → Outcome
-  mstructIn = mstructBy (typesBy book index) s set nest
+  abbrev pub structuresIn : Bool → BookType → ℕ → ℕ → ℕ → Cursor → ℕ → Outcome
+  structuresIn mutable t ty id count c room = severalOf (typesBy book index) s set nest mutable t ty id count 0 c room
 
   abbrev pub unionIn : Bool → BookType → Cursor → ℕ → Outcome
   unionIn mutable t c room = membersBy (typesBy book index) s set nest mutable (t .members) c room

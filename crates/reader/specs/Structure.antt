@@ -21,6 +21,20 @@ use Rattle.reader.specs.Member.{fmemberOf, mmemberOf}
 unfoldable pub absorbs : BookType → Member → Bool
 absorbs t m = eqb (t .extensibility) 1 || eqb (m .construct) 0
 
+module _ (s : List ℕ) (set : Settings) where
+  -- "A Mutable structure then looks for 0x3F02 itself"
+  unfoldable pub atSentinel : Cursor → Outcome
+  atSentinel c = afterMove short (seekToSentinel s set c) (λ d. read d [])
+
+  -- where the members of a Mutable structure begin, with the end that XCDR2 tells; and what ends it, after its members
+  unfoldable pub begunBy : Version → Cursor → Ending
+  begunBy Xcdr1 c = ending.At 0 c
+  begunBy Xcdr2 c = endingAt s set c
+
+  unfoldable pub endedBy : Version → ℕ → Cursor → Outcome
+  endedBy Xcdr1 end c = atSentinel c
+  endedBy Xcdr2 end c = read (cursorAt end (c .origin)) []
+
 module _ (types : List BookType) (s : List ℕ) (set : Settings) (nest : Nest) where
   -- "Final and Appendable structures: members in order."
   unfoldable pub fmembersOf : BookType → List Member → Cursor → ℕ → Outcome
@@ -32,15 +46,11 @@ module _ (types : List BookType) (s : List ℕ) (set : Settings) (nest : Nest) w
   mmembersOf [] c room = read c []
   mmembersOf (m ∷ ms) c room = andThen (mmemberOf types s set nest m c room) (λ d used. mmembersOf ms d (room - used))
 
-  -- "A Mutable structure then looks for 0x3F02 itself"
-  unfoldable pub atSentinel : Cursor → Outcome
-  atSentinel c = afterMove short (seekToSentinel s set c) (λ d. read d [])
-
   -- "Mutable structures and unions read a DHEADER first; the structure then stands at its end"
   unfoldable pub onEnding : BookType → ℕ → Ending → Outcome
   onEnding t room (ending.Short x) = short x
   onEnding t room (ending.At end c) = andThen (mmembersOf (t .members) c room) (λ d used. read (cursorAt end (d .origin)) [])
 
   unfoldable pub mstructBy : Version → BookType → Cursor → ℕ → Outcome
-  mstructBy Xcdr1 t c room = andThen (mmembersOf (t .members) c room) (λ d used. atSentinel d)
+  mstructBy Xcdr1 t c room = andThen (mmembersOf (t .members) c room) (λ d used. atSentinel s set d)
   mstructBy Xcdr2 t c room = onEnding t room (endingAt s set c)

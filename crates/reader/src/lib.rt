@@ -2,10 +2,10 @@
 // that is opened.
 ghost use mathlib.Core.Path.{_≡_};
 ghost use Rattle.book.specs.Places.{typeAt};
-ghost use Rattle.table.specs.Rows.{room};
+ghost use Rattle.table.specs.Rows.{row, room};
 ghost use Rattle.table.specs.Outcome.{Done};
-ghost use Rattle.wire.specs.declared.settings.Version.the-variants.{Xcdr1, Xcdr2};
-ghost use Rattle.reader.specs.Cycle.{nest, bodyIn, fstructIn, membersIn, mstructIn};
+ghost use Rattle.wire.specs.Place.{alignTo};
+ghost use Rattle.reader.specs.Cycle.{nest, bodyIn, fmembersIn, mmembersIn, structuresIn};
 
 pub mod member;
 pub mod plain;
@@ -15,10 +15,13 @@ pub mod value;
 
 use book::index::place;
 use book::member::after;
+use book::member::id;
 use book::member::members;
+use lookup::ahead::Hint;
+use lookup::ahead::onward;
+use lookup::ahead::sought;
+use lookup::ahead::value_at;
 use lookup::dheader::Ending;
-use lookup::dheader::dheader;
-use lookup::xcdr1::seek_to_sentinel;
 use table::out::Out;
 use table::out::Refusal;
 use table::rows::Row;
@@ -28,7 +31,6 @@ use values::scalar::enum_type;
 use wire::cursor::Cursor;
 use wire::cursor::Place;
 use wire::settings::Settings;
-use wire::settings::Version;
 
 // Opens a structure, an enum or a union: its kind, the depth and the room are asked in this order. Its row is written last, when all
 // rows beneath are counted.
@@ -54,6 +56,12 @@ pub fn as_nested(
     if depth == 0 {
         return Out::Refused(Refusal::TooDeep);
     }
+    if kind == 22 {
+        if types::is_mutable(book, p) {
+            return mstruct(book, index, s, set, t, p, ty, id, 1, c, n, depth - 1);
+        }
+        return fstruct(book, index, s, set, t, p, ty, id, 1, c, n, depth - 1);
+    }
     if is_full(t, n) {
         return Out::Refused(Refusal::NoRoom);
     }
@@ -76,7 +84,7 @@ pub fn as_nested(
     }
 }
 
-// What stands beneath a value's row, by its type, which is at `at`.
+// What stands beneath the row of an enum or a union, whose type is at `at`.
 pub fn body(
     book: &[u8],
     index: &[u32],
@@ -88,6 +96,7 @@ pub fn body(
     n: usize,
     depth: usize,
 ) -> Out
+    requires { ⌜ (typeAt (now book) at .kind ≡ 22 → ⊥) ⌝ }
     ensures { λ r. ⌜ Done (bodyIn (now (book .entry)) (now (index .entry)) (now (s .entry)) set depth (typeAt (now (book .entry)) at) c (room (now (t .entry)) n)) n (now (t .entry)) (now (t .exit)) r ⌝ }
 {
     let kind = types::kind_at(book, at);
@@ -95,28 +104,74 @@ pub fn body(
         return enum_type(s, set, t, types::base_at(book, at), c, n);
     }
     if types::is_mutable(book, at) {
-        if kind == 22 {
-            let version = set.version;
-            return match version {
-                Version::Xcdr1 => mstruct1(book, index, s, set, t, at, c, n, depth),
-                Version::Xcdr2 => mstruct2(book, index, s, set, t, at, c, n, depth),
-            };
-        }
         return union::munion(book, index, s, set, t, at, c, n, depth);
     }
     match types::contents_at(book, s, set, at, c) {
         Place::Short(x) => Out::Short(x),
-        Place::At(d) => {
-            if kind == 22 {
-                return fstruct(book, index, s, set, t, at, d, n, depth);
-            }
-            union::funion(book, index, s, set, t, at, d, n, depth)
+        Place::At(d) => union::funion(book, index, s, set, t, at, d, n, depth),
+    }
+}
+
+// Final or Appendable structures of the type at `at`, one after the other: a member's alone, or a list's. So a list of structures costs
+// one call. Each one's room is asked first, and its row written last, when all rows beneath are counted.
+pub fn fstruct(
+    book: &[u8],
+    index: &[u32],
+    s: &[u8],
+    set: Settings,
+    t: &mut [u64],
+    at: usize,
+    ty: usize,
+    id: u64,
+    count: u64,
+    c: Cursor,
+    n: usize,
+    depth: usize,
+) -> Out
+    ensures { λ r. ⌜ Done (structuresIn (now (book .entry)) (now (index .entry)) (now (s .entry)) set depth false (typeAt (now (book .entry)) at) ty id count c (room (now (t .entry)) n)) n (now (t .entry)) (now (t .exit)) r ⌝ }
+{
+    let mut i: u64 = 0;
+    let mut number = id;
+    let mut pos = c.pos;
+    let mut origin = c.origin;
+    let mut m = n;
+    while i < count {
+        if is_full(t, m) {
+            return Out::Refused(Refusal::NoRoom);
         }
+        match types::contents_at(book, s, set, at, Cursor { pos, origin }) {
+            Place::Short(x) => return Out::Short(x),
+            Place::At(d) => match fmembers(book, index, s, set, t, at, d, m + 1, depth) {
+                Out::Short(x) => return Out::Short(x),
+                Out::Refused(why) => return Out::Refused(why),
+                Out::Read(e, k) => {
+                    put_row(t, m, structure(number, ty, k - m - 1));
+                    pos = e.pos;
+                    origin = e.origin;
+                    m = k;
+                }
+            },
+        }
+        i += 1;
+        number = i;
+    }
+    Out::Read(Cursor { pos, origin }, m)
+}
+
+// The row of a structure.
+fn structure(id: u64, ty: usize, beneath: usize) -> Row
+    ensures { λ r. ⌜ r ≡ row 22 id ty beneath ⌝ }
+{
+    Row {
+        kind: 22,
+        id,
+        a: ty as u64,
+        b: beneath as u64,
     }
 }
 
 // Serialization rule 17: the members of a Final or Appendable structure. Too few bytes may end it as read.
-pub fn fstruct(
+pub fn fmembers(
     book: &[u8],
     index: &[u32],
     s: &[u8],
@@ -127,7 +182,7 @@ pub fn fstruct(
     n: usize,
     depth: usize,
 ) -> Out
-    ensures { λ r. ⌜ Done (fstructIn (now (book .entry)) (now (index .entry)) (now (s .entry)) set depth (typeAt (now (book .entry)) at) c (room (now (t .entry)) n)) n (now (t .entry)) (now (t .exit)) r ⌝ }
+    ensures { λ r. ⌜ Done (fmembersIn (now (book .entry)) (now (index .entry)) (now (s .entry)) set depth (typeAt (now (book .entry)) at) c (room (now (t .entry)) n)) n (now (t .entry)) (now (t .exit)) r ⌝ }
 {
     let mut ms = members(book, at);
     let mut pos = c.pos;
@@ -164,7 +219,52 @@ pub fn fstruct(
     Out::Read(Cursor { pos, origin }, m)
 }
 
-// The members of a Mutable structure, each by its lookup.
+// Mutable structures of the type at `at`, one after the other, as `fstruct` does it. Serialization rules 21 and 23.
+pub fn mstruct(
+    book: &[u8],
+    index: &[u32],
+    s: &[u8],
+    set: Settings,
+    t: &mut [u64],
+    at: usize,
+    ty: usize,
+    id: u64,
+    count: u64,
+    c: Cursor,
+    n: usize,
+    depth: usize,
+) -> Out
+    ensures { λ r. ⌜ Done (structuresIn (now (book .entry)) (now (index .entry)) (now (s .entry)) set depth true (typeAt (now (book .entry)) at) ty id count c (room (now (t .entry)) n)) n (now (t .entry)) (now (t .exit)) r ⌝ }
+{
+    let mut i: u64 = 0;
+    let mut number = id;
+    let mut pos = c.pos;
+    let mut origin = c.origin;
+    let mut m = n;
+    while i < count {
+        if is_full(t, m) {
+            return Out::Refused(Refusal::NoRoom);
+        }
+        match types::ending(s, set, Cursor { pos, origin }) {
+            Ending::Short(x) => return Out::Short(x),
+            Ending::At(end, d) => match mmembers(book, index, s, set, t, at, end, d, m + 1, depth) {
+                Out::Short(x) => return Out::Short(x),
+                Out::Refused(why) => return Out::Refused(why),
+                Out::Read(e, k) => {
+                    put_row(t, m, structure(number, ty, k - m - 1));
+                    pos = e.pos;
+                    origin = e.origin;
+                    m = k;
+                }
+            },
+        }
+        i += 1;
+        number = i;
+    }
+    Out::Read(Cursor { pos, origin }, m)
+}
+
+// The members of a Mutable structure, and its end. A structure without members does not even align.
 pub fn mmembers(
     book: &[u8],
     index: &[u32],
@@ -172,78 +272,81 @@ pub fn mmembers(
     set: Settings,
     t: &mut [u64],
     at: usize,
+    end: usize,
     c: Cursor,
     n: usize,
     depth: usize,
 ) -> Out
-    ensures { λ r. ⌜ Done (membersIn (now (book .entry)) (now (index .entry)) (now (s .entry)) set depth (typeAt (now (book .entry)) at) c (room (now (t .entry)) n)) n (now (t .entry)) (now (t .exit)) r ⌝ }
+    ensures { λ r. ⌜ Done (mmembersIn (now (book .entry)) (now (index .entry)) (now (s .entry)) set depth (typeAt (now (book .entry)) at) end c (room (now (t .entry)) n)) n (now (t .entry)) (now (t .exit)) r ⌝ }
 {
+    let version = set.version;
+    let ms = members(book, at);
+    if ms.left == 0 {
+        return types::ended(s, set, end, c, n);
+    }
+    match c.align(s, version, 4) {
+        Place::Short(x) => Out::Short(x),
+        Place::At(back) => looked(book, index, s, set, t, at, end, back, n, depth),
+    }
+}
+
+// Each member by its lookup, from the place that every lookup comes back to. Where members stand in the order of their ids, the next
+// header is the one that is wanted.
+pub fn looked(
+    book: &[u8],
+    index: &[u32],
+    s: &[u8],
+    set: Settings,
+    t: &mut [u64],
+    at: usize,
+    end: usize,
+    back: Cursor,
+    n: usize,
+    depth: usize,
+) -> Out
+    requires { ⌜ alignTo (now s) (set .version) back 4 ≡ Place.At back ⌝ }
+    ensures { λ r. ⌜ Done (mmembersIn (now (book .entry)) (now (index .entry)) (now (s .entry)) set depth (typeAt (now (book .entry)) at) end back (room (now (t .entry)) n)) n (now (t .entry)) (now (t .exit)) r ⌝ }
+{
+    let version = set.version;
+    let origin = back.origin;
     let mut ms = members(book, at);
-    let mut d = c;
+    let mut h = Hint {
+        next: back.pos,
+        least: 0,
+    };
     let mut m = n;
     while 0 < ms.left {
         let p = ms.at;
-        match member::mmember(book, index, s, set, t, p, d, m, depth) {
-            Out::Read(e, k) => {
-                d = e;
+        let wanted = id(book, p);
+        let ahead = sought(s, set, wanted, h, origin);
+        let v = ahead.value;
+        if 0 < v {
+            let c = value_at(version, v, origin);
+            h = onward(h, ahead, wanted);
+            let past = plain::take_found(book, index, s, set, t, p, c, m);
+            if 0 < past {
+                m += 1;
+                ms = after(book, ms);
+                continue;
+            }
+            match member::found(book, index, s, set, t, p, ahead.length, c, m, depth) {
+                Out::Read(_, k) => {
+                    m = k;
+                    ms = after(book, ms);
+                    continue;
+                }
+                Out::Short(x) => return Out::Short(x.back_to(back)),
+                Out::Refused(k) => return Out::Refused(k),
+            }
+        }
+        match member::mmember(book, index, s, set, t, p, back, m, depth) {
+            Out::Read(_, k) => {
                 m = k;
             }
-            Out::Short(x) => {
-                return Out::Short(x);
-            }
-            Out::Refused(k) => {
-                return Out::Refused(k);
-            }
+            Out::Short(x) => return Out::Short(x),
+            Out::Refused(k) => return Out::Refused(k),
         }
         ms = after(book, ms);
     }
-    Out::Read(d, m)
-}
-
-// Serialization rule 23: a Mutable structure of XCDR1, up to its end marker.
-pub fn mstruct1(
-    book: &[u8],
-    index: &[u32],
-    s: &[u8],
-    set: Settings,
-    t: &mut [u64],
-    at: usize,
-    c: Cursor,
-    n: usize,
-    depth: usize,
-) -> Out
-    ensures { λ r. ⌜ Done (mstructIn (now (book .entry)) (now (index .entry)) (now (s .entry)) set depth Xcdr1 (typeAt (now (book .entry)) at) c (room (now (t .entry)) n)) n (now (t .entry)) (now (t .exit)) r ⌝ }
-{
-    match mmembers(book, index, s, set, t, at, c, n, depth) {
-        Out::Read(d, m) => match seek_to_sentinel(s, set, d) {
-            Place::At(e) => Out::Read(e, m),
-            Place::Short(x) => Out::Short(x),
-        },
-        Out::Short(x) => Out::Short(x),
-        Out::Refused(k) => Out::Refused(k),
-    }
-}
-
-// Serialization rule 21: a Mutable structure of XCDR2. It ends where its DHEADER says, wherever its members were.
-pub fn mstruct2(
-    book: &[u8],
-    index: &[u32],
-    s: &[u8],
-    set: Settings,
-    t: &mut [u64],
-    at: usize,
-    c: Cursor,
-    n: usize,
-    depth: usize,
-) -> Out
-    ensures { λ r. ⌜ Done (mstructIn (now (book .entry)) (now (index .entry)) (now (s .entry)) set depth Xcdr2 (typeAt (now (book .entry)) at) c (room (now (t .entry)) n)) n (now (t .entry)) (now (t .exit)) r ⌝ }
-{
-    match dheader(s, set, c) {
-        Ending::Short(x) => Out::Short(x),
-        Ending::At(end, d) => match mmembers(book, index, s, set, t, at, d, n, depth) {
-            Out::Read(e, m) => Out::Read(Cursor::new(end, e.origin), m),
-            Out::Short(x) => Out::Short(x),
-            Out::Refused(k) => Out::Refused(k),
-        },
-    }
+    types::ended_from(s, set, end, back, h, m)
 }

@@ -4,8 +4,12 @@ ghost use Rattle.book.specs.Places.{memberAt};
 ghost use Rattle.table.specs.Rows.{room};
 ghost use Rattle.table.specs.Outcome.{Done};
 ghost use Rattle.reader.specs.Cycle.{foundIn, mmemberIn, optionalIn, fmemberIn};
+use crate::fstruct;
+use crate::mstruct;
 use crate::types::by_length;
 use crate::types::element_count;
+use crate::types::is_final;
+use crate::types::is_mutable_structure;
 use crate::value::elements;
 use crate::value::value;
 use book::index::place;
@@ -39,18 +43,15 @@ pub fn fmember(
     if is_optional(book, p) {
         return option(book, index, s, set, t, p, c, n, depth);
     }
-    value(
-        book,
-        index,
-        s,
-        set,
-        t,
-        type_index(book, p),
-        id(book, p) as u64,
-        c,
-        n,
-        depth,
-    )
+    let ty = type_index(book, p);
+    let at = place(book, index, ty);
+    let i = id(book, p) as u64;
+    if is_final(book, at) {
+        if 0 < depth {
+            return fstruct(book, index, s, set, t, at, ty, i, 1, c, n, depth - 1);
+        }
+    }
+    value(book, index, s, set, t, ty, i, c, n, depth)
 }
 
 // Serialization rules 19 and 20: an optional member of a Final or Appendable type. XCDR1 looks it up, XCDR2 asks a boolean.
@@ -164,5 +165,11 @@ pub fn found(
             depth,
         );
     }
-    value(book, index, s, set, t, ty, id(book, p) as u64, c, n, depth)
+    let i = id(book, p) as u64;
+    if is_mutable_structure(book, q) {
+        if 0 < depth {
+            return mstruct(book, index, s, set, t, q, ty, i, 1, c, n, depth - 1);
+        }
+    }
+    value(book, index, s, set, t, ty, i, c, n, depth)
 }

@@ -4,12 +4,12 @@ ghost use Rattle.table.specs.Rows.{room};
 ghost use Rattle.values.specs.Quick.{Quickly};
 ghost use Rattle.reader.specs.Value.{Nest};
 ghost use Rattle.reader.specs.Member.{fmemberOf};
-use crate::types::kind_at;
+use crate::types::read_as;
+use book::bytes::left_at;
 use book::index::place;
 use book::member::id;
 use book::member::is_optional;
 use book::member::type_index;
-use values::quick::is_number;
 use wire::cursor::Cursor;
 use wire::settings::Settings;
 
@@ -27,12 +27,46 @@ pub fn take(
 ) -> usize
     ensures { λ r. ⌜ ((nest : Nest) → Quickly (fmemberOf (typesBy (now (book .entry)) (now (index .entry))) (now (s .entry)) set nest (memberAt (now (book .entry)) p) c (room (now (t .entry)) n)) 1 n (c .origin) (now (t .entry)) (now (t .exit)) r) ⌝ }
 {
+    if left_at(book, p) < 9 {
+        return 0;
+    }
     if is_optional(book, p) {
         return 0;
     }
-    let kind = kind_at(book, place(book, index, type_index(book, p)));
-    if !is_number(kind) {
+    let ty = type_index(book, p);
+    if index.len() <= ty {
         return 0;
     }
+    let at = place(book, index, ty);
+    if left_at(book, at) < 10 {
+        return 0;
+    }
+    let kind = read_as(book, at);
     values::quick::take(s, set, t, kind, id(book, p) as u64, c, n)
+}
+
+// The same for a member that was found.
+pub fn take_found(
+    book: &[u8],
+    index: &[u32],
+    s: &[u8],
+    set: Settings,
+    t: &mut [u64],
+    p: usize,
+    c: Cursor,
+    n: usize,
+) -> usize {
+    if left_at(book, p) < 9 {
+        return 0;
+    }
+    let ty = type_index(book, p);
+    if index.len() <= ty {
+        return 0;
+    }
+    let at = place(book, index, ty);
+    if left_at(book, at) < 10 {
+        return 0;
+    }
+    let kind = read_as(book, at);
+    values::quick::take_found(s, set, t, kind, id(book, p) as u64, c, n)
 }

@@ -3,13 +3,21 @@ ghost use mathlib.Core.Path.{_≡_};
 ghost use Rattle.book.specs.Places.{memberAt, typeAt, typesBy};
 ghost use Rattle.reader.specs.Value.{isSequence, primitiveElement, readAs};
 ghost use Rattle.reader.specs.Member.{byLength, elementCount};
-ghost use Rattle.reader.specs.Structure.{absorbs};
-ghost use Rattle.reader.specs.Nested.{isMutable, contentsAt};
+ghost use Rattle.reader.specs.Structure.{absorbs, begunBy, endedBy};
+ghost use Rattle.reader.specs.Nested.{isMutable, isStructure, contentsAt};
+ghost use mathlib.Core.Bool.{true, false};
+ghost use Rattle.table.specs.Outcome.{answer};
+ghost use Rattle.lookup.specs.Ahead.{Led};
 use book::index::place;
 use book::types::bound;
 use book::types::element;
 use book::types::extensibility;
 use book::types::is_bounded;
+use lookup::ahead::Hint;
+use lookup::dheader::Ending;
+use lookup::dheader::dheader;
+use lookup::xcdr1::seek_to_sentinel;
+use table::out::Out;
 use values::header::after_dheader;
 use wire::cursor::Cursor;
 use wire::cursor::Place;
@@ -38,6 +46,26 @@ pub fn is_mutable(book: &[u8], at: usize) -> bool
     ensures { λ r. ⌜ r ≡ isMutable (typeAt (now (book .entry)) at) ⌝ }
 {
     extensibility(book, at) == 2
+}
+
+// Whether the type is a structure, Final or Appendable.
+pub fn is_final(book: &[u8], at: usize) -> bool
+    ensures { λ r. ⌜ r ≡ isStructure false (typeAt (now (book .entry)) at) ⌝ }
+{
+    if kind_at(book, at) != 22 {
+        return false;
+    }
+    !is_mutable(book, at)
+}
+
+// Whether it is a Mutable structure.
+pub fn is_mutable_structure(book: &[u8], at: usize) -> bool
+    ensures { λ r. ⌜ r ≡ isStructure true (typeAt (now (book .entry)) at) ⌝ }
+{
+    if kind_at(book, at) != 22 {
+        return false;
+    }
+    is_mutable(book, at)
 }
 
 // The kind that a value is read as: a bitmask's by its bound.
@@ -94,4 +122,41 @@ pub fn contents_at(book: &[u8], s: &[u8], set: Settings, at: usize, c: Cursor) -
         return after_dheader(s, set, c);
     }
     Place::At(c)
+}
+
+// What stands before the members of a Mutable structure: a DHEADER in XCDR2, which tells where it ends.
+pub fn ending(s: &[u8], set: Settings, c: Cursor) -> Ending
+    ensures { λ r. ⌜ r ≡ begunBy (now (s .entry)) set (set .version) c ⌝ }
+{
+    let version = set.version;
+    match version {
+        Version::Xcdr1 => Ending::At(0, c),
+        Version::Xcdr2 => dheader(s, set, c),
+    }
+}
+
+// What ends a Mutable structure, after n rows: the marker in XCDR1; in XCDR2 it ends where its DHEADER says, wherever its members were.
+pub fn ended(s: &[u8], set: Settings, end: usize, c: Cursor, n: usize) -> Out
+    ensures { λ r. ⌜ r ≡ answer n (endedBy (now (s .entry)) set (set .version) end c) ⌝ }
+{
+    let version = set.version;
+    match version {
+        Version::Xcdr1 => match seek_to_sentinel(s, set, c) {
+            Place::At(e) => Out::Read(e, n),
+            Place::Short(x) => Out::Short(x),
+        },
+        Version::Xcdr2 => Out::Read(Cursor::new(end, c.origin), n),
+    }
+}
+
+// The same from where the hint says, which is nearer.
+pub fn ended_from(s: &[u8], set: Settings, end: usize, c: Cursor, h: Hint, n: usize) -> Out
+    requires { ⌜ Led (now s) set c (c .origin) h ⌝ }
+    ensures { λ r. ⌜ r ≡ answer n (endedBy (now (s .entry)) set (set .version) end c) ⌝ }
+{
+    if 0x3F02 < h.least {
+        return ended(s, set, end, c, n);
+    }
+    let next = h.next;
+    ended(s, set, end, Cursor::new(next, c.origin), n)
 }

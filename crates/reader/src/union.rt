@@ -6,11 +6,12 @@ ghost use Rattle.table.specs.Outcome.{Done};
 ghost use mathlib.Core.Bool.{true, false};
 ghost use Rattle.values.specs.Header.{unheardDheader};
 ghost use Rattle.reader.specs.Cycle.{unionIn, selectedIn};
-use crate::member::fmember;
 use crate::member::mmember;
+use crate::member::option;
 use crate::value::value;
 use book::labels::Found;
 use book::member::id;
+use book::member::is_optional;
 use book::member::members;
 use book::member::type_index;
 use choice::discriminator::Discriminator;
@@ -127,7 +128,21 @@ pub fn chosen(
                 if mutable {
                     return mmember(book, index, s, set, t, q, c, n, depth);
                 }
-                fmember(book, index, s, set, t, q, c, n, depth)
+                if is_optional(book, q) {
+                    return option(book, index, s, set, t, q, c, n, depth);
+                }
+                value(
+                    book,
+                    index,
+                    s,
+                    set,
+                    t,
+                    type_index(book, q),
+                    id(book, q) as u64,
+                    c,
+                    n,
+                    depth,
+                )
             }
         },
     }

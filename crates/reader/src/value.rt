@@ -5,6 +5,10 @@ ghost use Rattle.table.specs.Rows.{room};
 ghost use Rattle.table.specs.Outcome.{Done};
 ghost use Rattle.reader.specs.Cycle.{complexIn, elementsIn, listIn, valueIn};
 use crate::as_nested;
+use crate::fstruct;
+use crate::mstruct;
+use crate::types::is_final;
+use crate::types::is_mutable_structure;
 use crate::types::is_sequence;
 use crate::types::kind_at;
 use crate::types::primitive_element;
@@ -147,6 +151,13 @@ pub fn opened(
 ) -> Out
     ensures { λ r. ⌜ Done (complexIn (now (book .entry)) (now (index .entry)) (now (s .entry)) set depth ty count c (room (now (t .entry)) n)) n (now (t .entry)) (now (t .exit)) r ⌝ }
 {
+    let at = place(book, index, ty);
+    if (0 < depth) & is_final(book, at) {
+        return fstruct(book, index, s, set, t, at, ty, 0, count, c, n, depth - 1);
+    }
+    if (0 < depth) & is_mutable_structure(book, at) {
+        return mstruct(book, index, s, set, t, at, ty, 0, count, c, n, depth - 1);
+    }
     let mut i: u64 = 0;
     let mut d = c;
     let mut m = n;

@@ -151,6 +151,41 @@ pub fn take(
     }
 }
 
+// The same once more, for members that were found: the compiler takes a function into a loop where nothing else calls it, and a call for
+// each member would cost as much as the member.
+pub fn take_found(
+    s: &[u8],
+    set: Settings,
+    t: &mut [u64],
+    kind: u8,
+    id: u64,
+    at: Cursor,
+    n: usize,
+) -> usize
+    ensures { λ r. ⌜ Quickly (scalarOf (now (s .entry)) set kind id at (room (now (t .entry)) n)) 1 n (at .origin) (now (t .entry)) (now (t .exit)) r × (0 < r → isTaken kind ≡ true) ⌝ }
+{
+    if is_full(t, n) {
+        return 0;
+    }
+    match kind {
+        1 => boolean(s, set, t, id, at, n),
+        2 => number(s, set, t, kind, 13, 1, id, at, n),
+        3 => number(s, set, t, kind, 3, 2, id, at, n),
+        4 => number(s, set, t, kind, 4, 4, id, at, n),
+        5 => number(s, set, t, kind, 5, 8, id, at, n),
+        6 => number(s, set, t, kind, 6, 2, id, at, n),
+        7 => number(s, set, t, kind, 7, 4, id, at, n),
+        8 => number(s, set, t, kind, 8, 8, id, at, n),
+        9 => number(s, set, t, kind, 9, 4, id, at, n),
+        10 => number(s, set, t, kind, 10, 8, id, at, n),
+        12 => number(s, set, t, kind, 12, 1, id, at, n),
+        13 => number(s, set, t, kind, 13, 1, id, at, n),
+        14 => number(s, set, t, kind, 14, 1, id, at, n),
+        16 => string(s, set, t, id, at, n),
+        _ => 0,
+    }
+}
+
 // The rows of a list's numbers. Nothing is asked in the loop, so the machine may take several at once.
 fn fill(
     s: &[u8],
