@@ -7,9 +7,11 @@ use native.Mathlib.Omega.{arith}
 use mir.Syntax.{w64}
 use mir.Val.{Fits}
 use lib.ListN.{length}
-use lib.Dec.{T, eqb}
-use borrow.Author.Tests.{not-false}
-use Rattle.ground.specs.Choice.{among}
+use lib.Dec.{T, eqb, leb, leb→le, eqb→eq}
+use Rattle.ground.specs.Choice.{among, both, _‥_, within}
+use Rattle.ground.proofs.Tests.{both-left, both-right}
+use Rattle.wire.specs.declared.settings.Version.{Version}
+use Rattle.wire.specs.declared.settings.Version.the-variants.{Xcdr1, Xcdr2}
 use Rattle.ground.proofs.Between.{passes, between}
 use Rattle.wire.specs.declared.cursor.Cursor.{Cursor}
 use Rattle.wire.specs.declared.settings.Settings.{Settings}
@@ -21,47 +23,106 @@ use Rattle.table.specs.Outcome.{read}
 use Rattle.table.proofs.Filling.{filled-fits}
 use Rattle.table.proofs.Outcomes.{was-read}
 use Rattle.values.specs.Scalar.{scalarOf}
-use Rattle.values.specs.Quick.{isNumber, Quickly}
-use Rattle.values.proofs.Quickly.{quick-not, quick-done, ranged}
-use Rattle.reader.specs.Value.{Nest, readAs, valueOf}
-use Rattle.reader.specs.Member.{fmemberBy, fmemberOf}
+use Rattle.values.specs.Quick.{isTaken, Quickly}
+use Rattle.values.proofs.Quickly.{quick-not, quick-done, quick-as}
+use Rattle.reader.specs.Value.{Nest, isSequence, primitiveElement, readAs, valueOf}
+use Rattle.reader.specs.Member.{byLength, foundBy, foundOf, fmemberBy, fmemberOf}
 
--- what no number's kind is
+-- what no kind that is taken is
 none-of : (x : Bool) → T (not x) → x ≡ false
 none-of true t = absurd t
 none-of false t = refl
 
-module _ (k : ℕ) (num : isNumber k ≡ true) where
-  outside : (f : ℕ → Bool) → T (passes (λ i. not (f i)) 2 13) → f k ≡ false
-  outside f p = let r = ranged k num in none-of (f k) (between (λ i. not (f i)) 13 2 p k (r .from) (omega (arith, r .to)))
+module _ (k : ℕ) (taken : isTaken k ≡ true) where
+  inside-1 : (1 ≤ k) × (k ≤ 16)
+  unfolding isTaken
+  inside-1 =
+      let t : T (both (within (1 ‥ 16) k) (not (among (11 ∷ 15 ∷ []) k))) = rw taken tt in
+      let i = both-left (within (1 ‥ 16) k) (not (among (11 ∷ 15 ∷ []) k)) t in
+      (leb→le 1 k (both-left (leb 1 k) (leb k 16) i), leb→le k 16 (both-right (leb 1 k) (leb k 16) i))
+
+  outside : (f : ℕ → Bool) → T (passes (λ i. not (both (isTaken i) (f i))) 1 16) → f k ≡ false
+  outside f p =
+      let z : both (isTaken k) (f k) ≡ false = none-of (both (isTaken k) (f k)) (between (λ i. not (both (isTaken i) (f i))) 16 1 p k (inside-1 .0) (omega (arith, inside-1 .1))) in
+      rw taken at z
 
   supported : unsupportedMember k ≡ false
-  unfolding unsupportedMember
+  unfolding unsupportedMember isTaken
   supported = outside unsupportedMember tt
 
   unopened : opens k ≡ false
-  unfolding opens
+  unfolding opens isTaken
   unopened = outside opens tt
 
-  number-value : (types : List BookType) (s : List ℕ) (set : Settings) (nest : Nest) (ty id : ℕ) (c : Cursor) (r : ℕ) → k ≡ typeNo types ty .kind → valueOf types s set nest ty id c r ≡ scalarOf s set k id c r
-  unfolding valueOf readAs
-  number-value types s set nest ty id c r e =
-      rw (← e, outside (λ i. eqb i 0) tt, supported, unopened, outside (among (25 ∷ 26 ∷ [])) tt, outside (λ i. eqb i 19) tt)
+  unlisted : among (25 ∷ 26 ∷ []) k ≡ false
+  unfolding isTaken
+  unlisted = outside (among (25 ∷ 26 ∷ [])) tt
 
+  some : eqb k 0 ≡ false
+  unfolding isTaken
+  some = outside (λ i. eqb i 0) tt
+
+-- a value whose kind is taken is read as that kind
+module _ (types : List BookType) (s : List ℕ) (set : Settings) (nest : Nest) (ty id : ℕ) (c : Cursor) (r k : ℕ) (taken : isTaken k ≡ true) (read : k ≡ readAs (typeNo types ty)) where
+  own : eqb (typeNo types ty .kind) 19 ≡ false → k ≡ typeNo types ty .kind
+  unfolding readAs
+  own e = read ∙ rw e
+
+  pub taken-value : valueOf types s set nest ty id c r ≡ scalarOf s set k id c r
+  unfolding valueOf
+  taken-value = go (eqb (typeNo types ty .kind) 19) refl
+    where
+      go : (x : Bool) → eqb (typeNo types ty .kind) 19 ≡ x → valueOf types s set nest ty id c r ≡ scalarOf s set k id c r
+      unfolding valueOf unsupportedMember opens
+      go true e = let f : typeNo types ty .kind ≡ 19 = eqb→eq (typeNo types ty .kind) 19 (rw e tt) in rw f (ap (λ (x : ℕ). scalarOf s set x id c r) (sym read))
+      go false e =
+          let f : typeNo types ty .kind ≡ k = sym (own e) in
+          let a : eqb (typeNo types ty .kind) 0 ≡ false = ap (λ (x : ℕ). eqb x 0) f ∙ some k taken in
+          let b : unsupportedMember (typeNo types ty .kind) ≡ false = ap unsupportedMember f ∙ supported k taken in
+          let d : opens (typeNo types ty .kind) ≡ false = ap opens f ∙ unopened k taken in
+          let g : among (25 ∷ 26 ∷ []) (typeNo types ty .kind) ≡ false = ap (among (25 ∷ 26 ∷ [])) f ∙ unlisted k taken in
+          rw (a, b, d, g) (ap (λ (x : ℕ). scalarOf s set x id c r) (sym read))
+
+  -- and is no sequence
+  pub taken-other : (v : Version) → byLength v types (typeNo types ty) ≡ false
+  unfolding byLength isSequence
+  taken-other Xcdr1 = refl
+  taken-other Xcdr2 = go (eqb (typeNo types ty .kind) 19) refl
+    where
+      go : (x : Bool) → eqb (typeNo types ty .kind) 19 ≡ x → both (isSequence (typeNo types ty)) (primitiveElement types (typeNo types ty)) ≡ false
+      unfolding isSequence isTaken
+      go true e = let f : typeNo types ty .kind ≡ 19 = eqb→eq (typeNo types ty .kind) 19 (rw e tt) in rw f
+      go false e = let f : eqb (typeNo types ty .kind) 25 ≡ false = ap (λ (x : ℕ). eqb x 25) (sym (own e)) ∙ outside k taken (λ i. eqb i 25) tt in rw f
+
+-- what the quick way took is the member's
 module _ (b index s : List ℕ) (set : Settings) (p : ℕ) (c : Cursor) (t : List ℕ) (n : ℕ) where
   pub plain-none : (nest : Nest) → Quickly (fmemberOf (typesBy b index) s set nest (memberAt b p) c (room t n)) 1 n (c .origin) t t 0
   plain-none nest = quick-not _ 1 n (c .origin) t
 
-  module _ (o : Bool) (is : o ≡ optional (memberAt b p)) (no : o ≡ false) (ty q k i : ℕ) (type : ty ≡ memberAt b p .type) (at : PlaceOf b index ty q) (kind : k ≡ typeAt b q .kind)
-      (y : Bool) (num : y ≡ isNumber k) (yes : not y ≡ false) (named : i ≡ memberAt b p .id) where
-    member-is : (nest : Nest) → fmemberOf (typesBy b index) s set nest (memberAt b p) c (room t n) ≡ scalarOf s set k i c (room t n)
-    unfolding fmemberOf fmemberBy
-    member-is nest =
-        let e : k ≡ typeNo (typesBy b index) ty .kind = kind ∙ ap (λ (x : BookType). x .kind) (at .is) in
-        rw (← is, no, ← type, ← named) (number-value k (sym num ∙ not-false y yes) (typesBy b index) s set nest ty i c (room t n) e)
+  pub found-none : (nest : Nest) (length : ℕ) → Quickly (foundOf (typesBy b index) s set nest (memberAt b p) length c (room t n)) 1 n (c .origin) t t 0
+  found-none nest length = quick-not _ 1 n (c .origin) t
 
-    pub plain-taken : (u : List ℕ) (r : ℕ) → Quickly (scalarOf s set k i c (room t n)) 1 n (c .origin) t u r → (nest : Nest) → Quickly (fmemberOf (typesBy b index) s set nest (memberAt b p) c (room t n)) 1 n (c .origin) t u r
-    plain-taken u r d nest = rw (member-is nest) d
+  module _ (ty q k i : ℕ) (type : ty ≡ memberAt b p .type) (at : PlaceOf b index ty q) (read : k ≡ readAs (typeAt b q)) (named : i ≡ memberAt b p .id)
+      (u : List ℕ) (r : ℕ) (d : Quickly (scalarOf s set k i c (room t n)) 1 n (c .origin) t u r) (takes : 0 < r → isTaken k ≡ true) where
+    read-as : k ≡ readAs (typeNo (typesBy b index) ty)
+    read-as = read ∙ ap readAs (at .is)
+
+    value-is : isTaken k ≡ true → (nest : Nest) → valueOf (typesBy b index) s set nest (memberAt b p .type) (memberAt b p .id) c (room t n) ≡ scalarOf s set k i c (room t n)
+    value-is y nest = rw (← type, ← named) (taken-value (typesBy b index) s set nest ty i c (room t n) k y read-as)
+
+    pub plain-taken : (o : Bool) → o ≡ optional (memberAt b p) → o ≡ false → (nest : Nest) → Quickly (fmemberOf (typesBy b index) s set nest (memberAt b p) c (room t n)) 1 n (c .origin) t u r
+    plain-taken o is no nest = quick-as _ _ 1 n (c .origin) t u r d (λ h. (member-is (takes h)))
+      where
+        member-is : isTaken k ≡ true → fmemberOf (typesBy b index) s set nest (memberAt b p) c (room t n) ≡ scalarOf s set k i c (room t n)
+        unfolding fmemberOf fmemberBy
+        member-is y = rw (sym is ∙ no) (value-is y nest)
+
+    pub found-taken : (nest : Nest) (length : ℕ) → Quickly (foundOf (typesBy b index) s set nest (memberAt b p) length c (room t n)) 1 n (c .origin) t u r
+    found-taken nest length = quick-as _ _ 1 n (c .origin) t u r d (λ h. (found-is (takes h)))
+      where
+        found-is : isTaken k ≡ true → foundOf (typesBy b index) s set nest (memberAt b p) length c (room t n) ≡ scalarOf s set k i c (room t n)
+        unfolding foundOf foundBy
+        found-is y = rw (← type, taken-other (typesBy b index) s set nest ty i c (room t n) k y read-as (set .version)) (rw type (value-is y nest))
 
 -- a row that was written has its place
 pub plain-next : (types : List BookType) (s : List ℕ) (set : Settings) (m : Member) (c : Cursor) (t : List ℕ) (n : ℕ) (u : List ℕ) (r : ℕ)

@@ -1,9 +1,10 @@
-// The quick way for a member: most are numbers, there whole, of a Final or Appendable structure.
+// The quick way for a member: most are numbers, booleans or texts, and there whole.
 ghost use Rattle.book.specs.Places.{memberAt, typesBy};
 ghost use Rattle.table.specs.Rows.{room};
 ghost use Rattle.values.specs.Quick.{Quickly};
 ghost use Rattle.reader.specs.Value.{Nest};
-ghost use Rattle.reader.specs.Member.{fmemberOf};
+ghost use Rattle.reader.specs.Member.{fmemberOf, foundOf};
+ghost use Prim.Native.Nat.{ℕ};
 use crate::types::read_as;
 use book::bytes::left_at;
 use book::index::place;
@@ -13,7 +14,7 @@ use book::member::type_index;
 use wire::cursor::Cursor;
 use wire::settings::Settings;
 
-// Takes the member at p where it is a number, and tells the position after it; or 0, and nothing is done. It opens nothing, so how values
+// Takes the member at p where it is such, and tells the position after it; or 0, and nothing is done. It opens nothing, so how values
 // are opened makes no difference.
 pub fn take(
     book: &[u8],
@@ -55,7 +56,9 @@ pub fn take_found(
     p: usize,
     c: Cursor,
     n: usize,
-) -> usize {
+) -> usize
+    ensures { λ r. ⌜ ((nest : Nest) (length : ℕ) → Quickly (foundOf (typesBy (now (book .entry)) (now (index .entry))) (now (s .entry)) set nest (memberAt (now (book .entry)) p) length c (room (now (t .entry)) n)) 1 n (c .origin) (now (t .entry)) (now (t .exit)) r) ⌝ }
+{
     if left_at(book, p) < 9 {
         return 0;
     }

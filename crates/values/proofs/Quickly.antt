@@ -50,6 +50,11 @@ module _ {o : Outcome} (k : ℕ) {n origin : ℕ} {a b : List ℕ} where
   quick-done zero h q = absurd (omega arith)
   quick-done (suc p) h q = q
 
+pub quick-as : (o p : Outcome) (k n origin : ℕ) (a b : List ℕ) (r : ℕ) → Quickly p k n origin a b r → (0 < r → o ≡ p) → Quickly o k n origin a b r
+unfolding Quickly
+quick-as o p k n origin a b zero q e = q
+quick-as o p k n origin a b (suc r) q e = is-same (e (omega arith)) q
+
 module _ (o : Outcome) (k n origin : ℕ) (a b : List ℕ) where
   pub quick-none : (r : ℕ) → r ≤ 0 → Quickly o k n origin a b r → b ≡ a
   unfolding Quickly

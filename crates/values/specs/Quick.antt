@@ -1,7 +1,7 @@
 -- The quick way of reading: what it takes is as the rules say, what it does not take it leaves alone.
 use Prim.Native.Nat.{ℕ, zero, suc, _+_, _*_, _≤_, _<_}
 use mathlib.Core.Path.{_≡_}
-use mathlib.Core.Bool.{Bool, not, _||_}
+use mathlib.Core.Bool.{Bool, not}
 use mathlib.Core.List.{List, [], _∷_}
 use lib.ListN.{length}
 use lib.Dec.{eqb}
@@ -20,9 +20,9 @@ use Rattle.values.specs.Scalar.{wordOf}
 unfoldable pub isNumber : ℕ → Bool
 isNumber kind = both (within (2 ‥ 14) kind) (not (eqb kind 11))
 
--- what is taken where it stands: a boolean, a number, a text of 8-bit units
+-- what is taken where it stands: a boolean, a number, a text of 8-bit units; so all from 1 to 16 but FLOAT128 and CHAR16
 unfoldable pub isTaken : ℕ → Bool
-isTaken kind = isNumber kind || among (1 ∷ 16 ∷ []) kind
+isTaken kind = both (within (1 ‥ 16) kind) (not (among (11 ∷ 15 ∷ []) kind))
 
 -- where the position after it is 0, nothing is done; else the value is, with k rows, and it stands there
 unfoldable pub Quickly : Outcome → ℕ → ℕ → ℕ → List ℕ → List ℕ → ℕ → Type 0
