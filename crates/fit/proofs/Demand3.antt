@@ -8,11 +8,11 @@ use native.Mathlib.Omega.{arith}
 use lib.Dec.{ltb}
 use lib.ListN.{length}
 use borrow.Author.Tests.{ltb-true, ltb-false}
+use Rattle.ground.proofs.Tests.{apart}
 use Rattle.wire.specs.declared.settings.Settings.{Settings}
 use Rattle.wire.specs.Place.{cursorAt}
 use Rattle.book.specs.Types.{BookType, typeCount, typesOf, typeNo}
 use Rattle.book.specs.Rules.{bookOk}
-use Rattle.book.proofs.Kept.{apart}
 use Rattle.table.specs.declared.rows.Row.{Row}
 use Rattle.table.specs.Outcome.{Outcome, numberOf, refusalNumber, rowsOf}
 use Rattle.reader.specs.Nested.{reading}

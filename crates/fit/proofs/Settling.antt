@@ -11,6 +11,7 @@ use lib.ListN.{length}
 use lib.IntN.{ℤ}
 use borrow.Author.Tests.{eqb-true, eq-eqb, not-true}
 use Rattle.ground.specs.Choice.{among}
+use Rattle.ground.proofs.Tests.{apart, both-first, both-second, one-second}
 use Rattle.wire.specs.declared.cursor.Cursor.{Cursor}
 use Rattle.wire.specs.declared.cursor.Place.{Place}
 use Rattle.wire.specs.declared.cursor.Place.the-variants as place
@@ -25,7 +26,6 @@ use Rattle.wire.specs.Number.{readBoolean}
 use Rattle.kinds.specs.Kinds.{opens, unsupportedMember, unsupportedElement}
 use Rattle.book.specs.Types.{BookType, Member, optional, default, typeNo}
 use Rattle.book.specs.Rules.{isEnum, isList, every}
-use Rattle.book.proofs.Kept.{apart, both-first, both-second, or-other}
 use Rattle.choice.specs.Discriminator.{discriminatorOf}
 use Rattle.choice.specs.Select.{selectedOf}
 use Rattle.choice.specs.declared.discriminator.Discriminator.{Discriminator}
@@ -235,7 +235,7 @@ module _ (types : List BookType) (s : List ℕ) (set : Settings) (right : (k : �
         rows count d g false q rs x =
             let t = typeNo types ty in
             let n : count ≡ t .bound = array-count s set (primitiveElement types t) (eqb (t .kind) 25) (t .bound) c count d q g in
-            rw n (shape.array (eqb-true (t .kind) 26 (or-other (eqb (t .kind) 25) (eqb (t .kind) 26) (list-is (t .kind) e) q)) (rw n at x))
+            rw n (shape.array (eqb-true (t .kind) 26 (one-second (eqb (t .kind) 25) (eqb (t .kind) 26) (list-is (t .kind) e) q)) (rw n at x))
 
     value-settles : (m : Member) (c : Cursor) (k : ℕ) → Ready types depth m → Settles (Held types s m) (valueOf types s set nest (m .type) (m .id) c k)
     unfolding valueOf memberSupported

@@ -9,11 +9,11 @@ use lib.Dec.{eqb}
 use lib.IntN.{ℤ}
 use borrow.Author.Tests.{not-true}
 use Rattle.ground.specs.Choice.{pick, among}
+use Rattle.ground.proofs.Tests.{apart}
 use Rattle.book.specs.Types.{BookType, Member, default, typeNo}
 use Rattle.book.specs.Labels.{isIn, orElse, when, firstWith, lastDefault}
 use Rattle.book.specs.Rules.{every}
 use Rattle.book.proofs.Search.{or-none}
-use Rattle.book.proofs.Kept.{apart}
 use Rattle.table.specs.declared.rows.Row.{Row}
 use Rattle.table.specs.Rows.{row}
 use Rattle.choice.specs.Discriminator.{discriminatorIn, enumIn, discriminatorOf}
