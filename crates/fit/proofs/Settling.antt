@@ -53,7 +53,7 @@ use Rattle.fit.specs.Fit.{OneOf, Fit, linksOf, memberTypes, memberSuppor
 use Rattle.fit.specs.Shape as shape
 use Rattle.fit.specs.Shape.{Value, Single, Elements, Opened, Beneath, Members, Held, storedKind}
 use Rattle.fit.proofs.Ends.{finished, wanting, broken, ends-prepend, ends-then, ends-end, ends-room, ends-closed, ends-back, ends-as, ends-move, ends-number, by-test}
-use Rattle.fit.proofs.KindTests.{readable, member-readable, element-readable, number-kind, text-kind, opened-kind, opened-flat, opened-union, block-kind, base-is}
+use Rattle.fit.proofs.KindTests.{readable, member-readable, element-readable, scalar-kind, text-kind, opened-kind, opened-flat, opened-union, block-kind, base-is}
 use Rattle.fit.proofs.Unions.{never-unfit, selected-other}
 use Rattle.fit.proofs.Scalars.{bad-data, no-room, no-discriminator, Settles, scalar-settles}
 
@@ -176,7 +176,7 @@ module _ (types : List BookType) (s : List ℕ) (set : Settings) (right : (k : �
   single-settles ty id c k h =
       let t = typeNo types ty in
       scalar-settles s set (readAs t) id c k h
-      (λ a b p q. shape.number a b (number-kind t (right ty .kind) h p q))
+      (λ a b p q. shape.scalar a b (scalar-kind t (right ty .kind) h p q))
       (λ start n e i. shape.text8 start n (text-kind t 16 refl e) i)
       (λ start n e i. shape.text16 start n (text-kind t 17 refl e) i)
 
