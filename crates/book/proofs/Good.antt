@@ -144,14 +144,14 @@ pub record GoodMember (k : ℕ) (t : BookType) (m : Member) : Type 0 where
   pub construct : m .construct ≤ 2
   pub labels : length (m .labels) ≤ 16
 
--- the kinds that a discriminator may have: "1 to 15, 19 or 21"
-abbrev pub chooses : ℕ → Bool
-chooses kind = within (1 ‥ 15) kind || eqb kind 19 || eqb kind 21
+-- the kinds that a right book's discriminator may have: "1 to 15, 19 or 21". Fewer of them choose (`chooses` of crates/fit/specs/Fit.antt)
+abbrev pub allowed : ℕ → Bool
+allowed kind = within (1 ‥ 15) kind || eqb kind 19 || eqb kind 21
 
 -- A UNION'S FIRST MEMBER
 pub record GoodFirst (types : List BookType) (m : Member) : Type 0 where
   pub id : m .id ≡ 0
-  pub kind : chooses (typeNo types (m .type) .kind) ≡ true
+  pub kind : allowed (typeNo types (m .type) .kind) ≡ true
   pub noDefault : default m ≡ false
   pub noLabel : m .labels ≡ []
 
@@ -186,7 +186,7 @@ module _ (types : List BookType) (k : ℕ) (t : BookType) (before : List Member)
       let kind : ℕ = typeNo types (m .type) .kind in
       record {
         id = eqb-true (m .id) 0 (asked first (eqb (m .id) 0) (kept 1 (idOk before m) (firstIdOk first m ∷ []) (fields 0)) f);
-        kind = asked first (chooses kind) (kept 1 (linkOk k t m) (firstKindOk types first m ∷ []) (fields 1)) f;
+        kind = asked first (allowed kind) (kept 1 (linkOk k t m) (firstKindOk types first m ∷ []) (fields 1)) f;
         noDefault = not-true (default m) (asked first (not (default m)) (kept 1 (flagsOk m) (firstDefaultOk first m ∷ []) (fields 2)) f);
         noLabel = empty (m .labels) (eqb-true (length (m .labels)) 0 (asked first (eqb (length (m .labels)) 0) (kept 1 (labelCountOk m) (firstLabelOk first m ∷ []) (fields 4)) f));
       }
