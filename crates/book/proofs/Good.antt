@@ -9,12 +9,12 @@ use lib.Dec.{eqb, ltb, leb}
 use lib.ListN.{length, getD, take, drop}
 use lib.Seq.{length-take-le, getD-take}
 use borrow.Author.Tests.{leb-true, ltb-true, eqb-true, eq-eqb, ne-eqb, not-true, eqb-false}
-use Rattle.ground.specs.Choice.{both, _‥_, within}
+use Rattle.ground.specs.Choice.{both, every, _‥_, within}
 use Rattle.ground.proofs.Tests.{both-first, both-second, one-first, one-second}
 use Rattle.book.specs.Types.{Member, BookType, default, bounded, noIndex, quad, typeOf, pastType, typeCount, typesFrom, typesOf, typeNo}
 use Rattle.book.specs.Places.{from, typesBy, indexCount, indexed}
 use Rattle.book.specs.Rules.{isEnum, isUnion, isArray, isList, sizeOk, versionOk, typeCountOk, headOk, recordLengthOk, kindOk, extensibilityOk, baseOk, boundFlagOk, codesOk, arrayBoundOk, boundOk, boundsOk, elementOk, memberCountOk, memberKindOk, someMemberOk, countOk, ownOk}
-use Rattle.book.specs.Rules.{every, otherId, idOk, linkOk, flagsOk, constructOk, labelCountOk, firstOfUnion, firstIdOk, firstKindOk, firstDefaultOk, firstLabelOk, memberOk, membersOk, typeOk, recordOk, recordsOk, bookOk}
+use Rattle.book.specs.Rules.{otherId, idOk, linkOk, flagsOk, constructOk, labelCountOk, firstOfUnion, firstIdOk, firstKindOk, firstDefaultOk, firstLabelOk, memberOk, membersOk, typeOk, recordOk, recordsOk, bookOk}
 use Rattle.book.proofs.Kept.{kept, asked, picked, unpicked}
 use Rattle.book.proofs.Indexing.{index-types}
 use Rattle.book.proofs.Judging.{few-types}

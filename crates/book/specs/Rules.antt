@@ -6,7 +6,7 @@ use mathlib.Core.List.{List, [], _∷_, _++_}
 use mathlib.Core.Bool.{Bool, true, not, _&&_, _||_}
 use lib.ListN.{length, drop}
 use lib.Dec.{eqb, ltb, leb}
-use Rattle.ground.specs.Choice.{pick, both, _‥_, within}
+use Rattle.ground.specs.Choice.{pick, both, every, _‥_, within}
 use Rattle.book.specs.Types.{Member, BookType, default, bounded, noIndex, byte, pair, quad, typeCount, typeOf, pastType, typesOf, typeNo}
 
 -- The kinds that rules name
@@ -114,10 +114,6 @@ ownOk k t = codesOk t && boundsOk t && elementOk k t && countOk t
 -- "Ids differ within a type."
 unfoldable pub otherId : ℕ → Member → Bool
 otherId id m = not (eqb (m .id) id)
-
-unfoldable pub every : {A : Type 0} → (A → Bool) → List A → Bool
-every f [] = true
-every f (x ∷ xs) = both (f x) (every f xs)
 
 unfoldable pub idOk : List Member → Member → Bool
 idOk before m = every (otherId (m .id)) before

@@ -7,11 +7,10 @@ use native.Mathlib.Omega.{arith}
 use lib.Dec.{eqb}
 use lib.ListN.{length, getD, take, drop}
 use lib.Seq.{take-at}
-use Rattle.ground.specs.Choice.{both, among}
+use Rattle.ground.specs.Choice.{both, every, among}
 use Rattle.ground.proofs.Tests.{apart}
 use Rattle.kinds.specs.Kinds.{opens}
 use Rattle.book.specs.Types.{BookType, typeNo}
-use Rattle.book.specs.Rules.{every}
 use Rattle.table.specs.declared.rows.Row.{Row}
 use Rattle.table.specs.Rows.{row}
 use Rattle.fit.specs.Shape as shape

@@ -6,11 +6,10 @@ use mathlib.Core.List.{List, [], _∷_}
 use native.Mathlib.Omega.{arith}
 use lib.Dec.{eqb, T}
 use borrow.Author.Tests.{eqb-true, ne-eqb, not-true}
-use Rattle.ground.specs.Choice.{pick, both, among, _‥_, within}
+use Rattle.ground.specs.Choice.{pick, both, every, among, _‥_, within}
 use Rattle.ground.proofs.Tests.{apart, both-first, both-second}
 use Rattle.ground.proofs.Between.{passes, between}
 use Rattle.book.specs.Types.{BookType, bounded}
-use Rattle.book.specs.Rules.{every}
 use Rattle.kinds.specs.Kinds.{isPrimitive, storedOf, opens, unsupportedMember, unsupportedElement, bitmaskStored, storedByBound}
 use Rattle.reader.specs.Value.{readAs}
 use Rattle.fit.specs.Fit.{chooses}

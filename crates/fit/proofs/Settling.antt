@@ -10,7 +10,7 @@ use lib.Dec.{eqb}
 use lib.ListN.{length}
 use lib.IntN.{ℤ}
 use borrow.Author.Tests.{eqb-true, eq-eqb, not-true}
-use Rattle.ground.specs.Choice.{among}
+use Rattle.ground.specs.Choice.{every, among}
 use Rattle.ground.proofs.Tests.{apart, both-first, both-second, one-second}
 use Rattle.wire.specs.declared.cursor.Cursor.{Cursor}
 use Rattle.wire.specs.declared.cursor.Place.{Place}
@@ -25,7 +25,7 @@ use Rattle.wire.specs.Place.{seekTo}
 use Rattle.wire.specs.Number.{readBoolean}
 use Rattle.kinds.specs.Kinds.{opens, unsupportedMember, unsupportedElement}
 use Rattle.book.specs.Types.{BookType, Member, optional, default, typeNo}
-use Rattle.book.specs.Rules.{isEnum, isList, every}
+use Rattle.book.specs.Rules.{isEnum, isList}
 use Rattle.choice.specs.Discriminator.{discriminatorOf}
 use Rattle.choice.specs.Select.{selectedOf}
 use Rattle.choice.specs.declared.discriminator.Discriminator.{Discriminator}

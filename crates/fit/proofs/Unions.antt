@@ -8,11 +8,10 @@ use native.Mathlib.Omega.{arith}
 use lib.Dec.{eqb}
 use lib.IntN.{ℤ}
 use borrow.Author.Tests.{not-true}
-use Rattle.ground.specs.Choice.{pick, among}
+use Rattle.ground.specs.Choice.{pick, every, among}
 use Rattle.ground.proofs.Tests.{apart}
 use Rattle.book.specs.Types.{BookType, Member, default, typeNo}
 use Rattle.book.specs.Labels.{isIn, orElse, when, firstWith, lastDefault}
-use Rattle.book.specs.Rules.{every}
 use Rattle.book.proofs.Search.{or-none}
 use Rattle.table.specs.declared.rows.Row.{Row}
 use Rattle.table.specs.Rows.{row}

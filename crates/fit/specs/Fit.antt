@@ -7,10 +7,10 @@ use mathlib.Core.Path.{_≡_}
 use mathlib.Core.Bool.{Bool, true, false, not, _||_}
 use mathlib.Core.List.{List, [], _∷_, List·Memᴰ}
 use lib.Dec.{eqb}
-use Rattle.ground.specs.Choice.{pick, both, among}
+use Rattle.ground.specs.Choice.{pick, both, every, among}
 use Rattle.kinds.specs.Kinds.{opens, unsupportedMember, unsupportedElement, bitmaskStored}
 use Rattle.book.specs.Types.{BookType, Member, bounded, typeNo}
-use Rattle.book.specs.Rules.{isEnum, isUnion, isList, every}
+use Rattle.book.specs.Rules.{isEnum, isUnion, isList}
 
 -- x stands in the list
 abbrev pub OneOf : {A : Type 0} → A → List A → Type 0
