@@ -1,7 +1,7 @@
 -- What a right book gives to those who read it: each rule as a fact about its types. Assumes nothing.
 use Prim.Native.Nat.{ℕ, zero, suc, _+_, _<_, _≤_}
 use mathlib.Core.Path.{_≡_, refl, sym, ap, _∙_}
-use mathlib.Core.Bool.{Bool, true, false, not, _&&_, _||_}
+use mathlib.Core.Bool.{Bool, true, false, not, _&&_, _||_, or-true}
 use mathlib.Core.List.{List, [], _∷_, _++_, append-assoc, append-nil}
 use native.Mathlib.Omega.{arith}
 use native.Mathlib.Nat.{add-zero, le-of-lt}
@@ -9,13 +9,15 @@ use lib.Dec.{eqb, ltb, leb}
 use lib.ListN.{length, getD, take, drop}
 use lib.Seq.{length-take-le, getD-take}
 use borrow.Author.Tests.{leb-true, ltb-true, eqb-true, eq-eqb, ne-eqb, not-true, eqb-false}
-use Rattle.ground.specs.Choice.{both, _‥_, within}
+use Rattle.ground.specs.Choice.{both, every, _‥_, within}
+use Rattle.ground.proofs.Tests.{both-first, both-second, one-first, one-second}
 use Rattle.book.specs.Types.{Member, BookType, default, bounded, noIndex, quad, typeOf, pastType, typeCount, typesFrom, typesOf, typeNo}
 use Rattle.book.specs.Places.{from, typesBy, indexCount, indexed}
 use Rattle.book.specs.Rules.{isEnum, isUnion, isArray, isList, sizeOk, versionOk, typeCountOk, headOk, recordLengthOk, kindOk, extensibilityOk, baseOk, boundFlagOk, codesOk, arrayBoundOk, boundOk, boundsOk, elementOk, memberCountOk, memberKindOk, someMemberOk, countOk, ownOk}
-use Rattle.book.specs.Rules.{every, otherId, idOk, linkOk, flagsOk, constructOk, labelCountOk, firstOfUnion, firstIdOk, firstKindOk, firstDefaultOk, firstLabelOk, memberOk, membersOk, typeOk, recordOk, recordsOk, bookOk}
-use Rattle.book.proofs.Kept.{apart, both-first, both-second, kept, asked, or-other, picked, unpicked}
+use Rattle.book.specs.Rules.{otherId, idOk, linkOk, flagsOk, constructOk, labelCountOk, firstOfUnion, firstIdOk, firstKindOk, firstDefaultOk, firstLabelOk, memberOk, membersOk, typeOk, recordOk, recordsOk, bookOk}
+use Rattle.book.proofs.Kept.{kept, asked, picked, unpicked}
 use Rattle.book.proofs.Indexing.{index-types}
+use Rattle.book.proofs.Judging.{few-types}
 
 -- THE HEAD
 head-good : (b : List ℕ) → bookOk b ≡ true → headOk b ≡ true
@@ -31,7 +33,7 @@ pub count-good : (b : List ℕ) → bookOk b ≡ true → (1 ≤ typeCount b) ×
 unfolding headOk typeCountOk
 count-good b e =
     let c : within (1 ‥ 64) (typeCount b) ≡ true = kept 2 (sizeOk b) (versionOk b ∷ typeCountOk b ∷ []) (head-good b e) in
-    (leb-true 1 (typeCount b) (both-first (leb 1 (typeCount b)) (leb (typeCount b) 64) c), leb-true (typeCount b) 64 (both-second (leb 1 (typeCount b)) (leb (typeCount b) 64) c))
+    (leb-true 1 (typeCount b) (both-first (leb 1 (typeCount b)) (leb (typeCount b) 64) c), few-types b (head-good b e))
 
 length-from : (n : ℕ) (s : List ℕ) → length (typesFrom n s) ≡ n
 unfolding typesFrom
@@ -88,17 +90,6 @@ empty : {A : Type 0} (l : List A) → length l ≡ 0 → l ≡ []
 empty [] e = refl
 empty (x ∷ xs) e = absurd (omega arith)
 
-or-first : (a b : Bool) → a ≡ true → (a || b) ≡ true
-or-first a b e = rw e
-
-or-second : (a b : Bool) → b ≡ true → (a || b) ≡ true
-or-second true b e = refl
-or-second false b e = e
-
-or-swap : (a b : Bool) → (a || b) ≡ true → b ≡ false → a ≡ true
-or-swap true b e h = refl
-or-swap false b e h = absurd (apart (sym h ∙ e))
-
 module _ (k : ℕ) (t : BookType) (e : ownOk k t ≡ true) where
   own : (i : ℕ) → getD (codesOk t ∷ boundsOk t ∷ elementOk k t ∷ countOk t ∷ []) i true ≡ true
   unfolding ownOk
@@ -131,18 +122,18 @@ module _ (k : ℕ) (t : BookType) (e : ownOk k t ≡ true) where
         kind = leb-true (t .kind) 27 (codes 0);
         extensibility = leb-true (t .extensibility) 2 (codes 1);
         base = leb-true (t .base) 27 (bases 0);
-        noBase = λ (f : t .kind ≡ 21 → ⊥). eqb-true (t .base) 0 (or-swap (eqb (t .base) 0) (isEnum t) (bases 1) (ne-eqb (t .kind) 21 f));
+        noBase = λ (f : t .kind ≡ 21 → ⊥). eqb-true (t .base) 0 (one-first (eqb (t .base) 0) (isEnum t) (bases 1) (ne-eqb (t .kind) 21 f));
         flag = leb-true (t .boundFlag) 1 (codes 3);
         array = λ (f : t .kind ≡ 26). asked (isArray t) (bounded t) (bounds 0) (eq-eqb (t .kind) 26 f);
-        noBound = λ (f : bounded t ≡ false). eqb-true (t .bound) 0 (or-other (bounded t) (eqb (t .bound) 0) (bounds 1) f);
+        noBound = λ (f : bounded t ≡ false). eqb-true (t .bound) 0 (one-second (bounded t) (eqb (t .bound) 0) (bounds 1) f);
         element = λ (f : isList t ≡ true). ltb-true (t .element) k (picked (isList t) (ltb (t .element) k) (eqb (t .element) noIndex) (own 2) f);
         noElement = λ (f : isList t ≡ false). eqb-true (t .element) noIndex (unpicked (isList t) (ltb (t .element) k) (eqb (t .element) noIndex) (own 2) f);
         few = leb-true (length (t .members)) 64 (counts 0);
         noMember =
             λ (f : within (21 ‥ 23) (t .kind) ≡ false).
-            empty (t .members) (eqb-true (length (t .members)) 0 (or-swap (eqb (length (t .members)) 0) (within (21 ‥ 23) (t .kind)) (counts 1) f));
-        enum = λ (f : t .kind ≡ 21). has-some (or-first (isEnum t) (isUnion t) (eq-eqb (t .kind) 21 f));
-        union = λ (f : t .kind ≡ 23). has-some (or-second (isEnum t) (isUnion t) (eq-eqb (t .kind) 23 f));
+            empty (t .members) (eqb-true (length (t .members)) 0 (one-first (eqb (length (t .members)) 0) (within (21 ‥ 23) (t .kind)) (counts 1) f));
+        enum = λ (f : t .kind ≡ 21). has-some (rw (eq-eqb (t .kind) 21 f));
+        union = λ (f : t .kind ≡ 23). has-some (rw (eq-eqb (t .kind) 23 f, or-true (isEnum t)));
       }
 
 -- A MEMBER
@@ -153,14 +144,14 @@ pub record GoodMember (k : ℕ) (t : BookType) (m : Member) : Type 0 where
   pub construct : m .construct ≤ 2
   pub labels : length (m .labels) ≤ 16
 
--- the kinds that a discriminator may have: "1 to 15, 19 or 21"
-abbrev pub chooses : ℕ → Bool
-chooses kind = within (1 ‥ 15) kind || eqb kind 19 || eqb kind 21
+-- the kinds that a right book's discriminator may have: "1 to 15, 19 or 21". Fewer of them choose (`chooses` of crates/fit/specs/Fit.antt)
+abbrev pub allowed : ℕ → Bool
+allowed kind = within (1 ‥ 15) kind || eqb kind 19 || eqb kind 21
 
 -- A UNION'S FIRST MEMBER
 pub record GoodFirst (types : List BookType) (m : Member) : Type 0 where
   pub id : m .id ≡ 0
-  pub kind : chooses (typeNo types (m .type) .kind) ≡ true
+  pub kind : allowed (typeNo types (m .type) .kind) ≡ true
   pub noDefault : default m ≡ false
   pub noLabel : m .labels ≡ []
 
@@ -195,7 +186,7 @@ module _ (types : List BookType) (k : ℕ) (t : BookType) (before : List Member)
       let kind : ℕ = typeNo types (m .type) .kind in
       record {
         id = eqb-true (m .id) 0 (asked first (eqb (m .id) 0) (kept 1 (idOk before m) (firstIdOk first m ∷ []) (fields 0)) f);
-        kind = asked first (chooses kind) (kept 1 (linkOk k t m) (firstKindOk types first m ∷ []) (fields 1)) f;
+        kind = asked first (allowed kind) (kept 1 (linkOk k t m) (firstKindOk types first m ∷ []) (fields 1)) f;
         noDefault = not-true (default m) (asked first (not (default m)) (kept 1 (flagsOk m) (firstDefaultOk first m ∷ []) (fields 2)) f);
         noLabel = empty (m .labels) (eqb-true (length (m .labels)) 0 (asked first (eqb (length (m .labels)) 0) (kept 1 (labelCountOk m) (firstLabelOk first m ∷ []) (fields 4)) f));
       }

@@ -8,12 +8,13 @@ use native.Mathlib.Numerals.{add-one}
 use lib.Dec.{eqb, ltb, leb}
 use lib.ListN.{length, take, drop, length-drop}
 use borrow.Author.Tests.{not-true, not-false, lt-leb, le-leb, eq-eqb, ne-eqb, leb-true, eqb-true}
-use Rattle.ground.specs.Choice.{both}
+use Rattle.ground.specs.Choice.{both, every}
+use Rattle.ground.proofs.Tests.{apart, both-first, both-second}
 use Rattle.book.specs.declared.member.Run.{Run}
 use Rattle.book.specs.Types.{Member, BookType, bounded, noIndex, byte, pair, memberOf, pastMember, membersOf, typeOf, pastType, typeCount, typesOf}
 use Rattle.book.specs.Places.{from, memberAt, typeAt, Skipped, listed, later, earlier, Below, Started, After, typesBy, indexCount, indexed}
-use Rattle.book.specs.Rules.{memberSize, filled, recordLengthOk, codesOk, kindOk, extensibilityOk, baseOk, boundFlagOk, boundsOk, arrayBoundOk, boundOk, elementOk, countOk, memberCountOk, memberKindOk, someMemberOk, ownOk, every, otherId, idOk, linkOk, flagsOk, constructOk, labelCountOk, firstOfUnion, firstIdOk, firstKindOk, firstDefaultOk, firstLabelOk, memberOk, membersOk, typeOk, recordOk, recordsOk, sizeOk, versionOk, typeCountOk, headOk, bookOk}
-use Rattle.book.proofs.Kept.{apart, both-first, both-second, kept}
+use Rattle.book.specs.Rules.{memberSize, filled, recordLengthOk, codesOk, kindOk, extensibilityOk, baseOk, boundFlagOk, boundsOk, arrayBoundOk, boundOk, elementOk, countOk, memberCountOk, memberKindOk, someMemberOk, ownOk, otherId, idOk, linkOk, flagsOk, constructOk, labelCountOk, firstOfUnion, firstIdOk, firstKindOk, firstDefaultOk, firstLabelOk, memberOk, membersOk, typeOk, recordOk, recordsOk, sizeOk, versionOk, typeCountOk, headOk, bookOk}
+use Rattle.book.proofs.Kept.{kept}
 use Rattle.book.proofs.Indexing.{index-types, take-indexed, length-places}
 use Rattle.book.proofs.Places.{label-count-is, run, run-more, run-none, length-members}
 

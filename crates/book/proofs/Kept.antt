@@ -1,23 +1,11 @@
 -- One rule out of several that are all kept. Assumes nothing.
 use Prim.Native.Nat.{ℕ, zero, suc}
-use mathlib.Core.Path.{_≡_, refl}
+use mathlib.Core.Path.{_≡_, refl, sym}
 use mathlib.Core.Bool.{Bool, true, false, not, _&&_, _||_}
 use mathlib.Core.List.{List, [], _∷_}
-use native.Mathlib.Omega.{arith}
 use lib.ListN.{getD}
-use Rattle.ground.specs.Choice.{pick, both}
-
--- false is not true
-pub apart : false ≡ true → ⊥
-apart e = let z : _≡_ {A = ℕ} 0 1 = cc in omega arith
-
-pub both-first : (a b : Bool) → both a b ≡ true → a ≡ true
-both-first true b e = refl
-both-first false b e = e
-
-pub both-second : (a b : Bool) → both a b ≡ true → b ≡ true
-both-second true b e = e
-both-second false b e = absurd (apart e)
+use Rattle.ground.specs.Choice.{pick}
+use Rattle.ground.proofs.Tests.{apart}
 
 -- a && b && .. of a row of tests
 abbrev pub row : Bool → List Bool → Bool
@@ -48,15 +36,11 @@ pub asked : (a b : Bool) → (not a || b) ≡ true → a ≡ true → b ≡ true
 asked true b e h = e
 asked false b e h = absurd (apart h)
 
--- one of two
-pub or-other : (a b : Bool) → (a || b) ≡ true → a ≡ false → b ≡ true
-or-other true b e h = absurd (let z : _≡_ {A = ℕ} 0 1 = cc in omega arith)
-or-other false b e h = e
-
+-- what a pick comes to
 pub picked : (t a b : Bool) → pick t a b ≡ true → t ≡ true → a ≡ true
 picked true a b e h = e
 picked false a b e h = absurd (apart h)
 
 pub unpicked : (t a b : Bool) → pick t a b ≡ true → t ≡ false → b ≡ true
-unpicked true a b e h = absurd (let z : _≡_ {A = ℕ} 0 1 = cc in omega arith)
+unpicked true a b e h = absurd (apart (sym h))
 unpicked false a b e h = e

@@ -6,7 +6,7 @@ use mathlib.Core.List.{List, [], _∷_, _++_}
 use mathlib.Core.Bool.{Bool, true, not, _&&_, _||_}
 use lib.ListN.{length, drop}
 use lib.Dec.{eqb, ltb, leb}
-use Rattle.ground.specs.Choice.{pick, both, _‥_, within}
+use Rattle.ground.specs.Choice.{pick, both, every, _‥_, within}
 use Rattle.book.specs.Types.{Member, BookType, default, bounded, noIndex, byte, pair, quad, typeCount, typeOf, pastType, typesOf, typeNo}
 
 -- The kinds that rules name
@@ -111,14 +111,10 @@ unfoldable pub ownOk : ℕ → BookType → Bool
 ownOk k t = codesOk t && boundsOk t && elementOk k t && countOk t
 
 -- A MEMBER, of type t, record k, with those before it
--- "Ids differ within a type."
 unfoldable pub otherId : ℕ → Member → Bool
 otherId id m = not (eqb (m .id) id)
 
-unfoldable pub every : {A : Type 0} → (A → Bool) → List A → Bool
-every f [] = true
-every f (x ∷ xs) = both (f x) (every f xs)
-
+-- "Ids differ within a type."
 unfoldable pub idOk : List Member → Member → Bool
 idOk before m = every (otherId (m .id)) before
 
@@ -138,21 +134,25 @@ constructOk m = leb (m .construct) 2
 unfoldable pub labelCountOk : Member → Bool
 labelCountOk m = leb (length (m .labels)) 16
 
--- "a union, whose first has id 0, no label, no default flag, and a type of kind 1 to 15, 19 or 21": asked of that member alone
+-- "a union, whose first has id 0, no label, no default flag, and a type of kind 1 to 15, 19 or 21": four rules, asked of that member alone
 unfoldable pub firstOfUnion : BookType → List Member → Bool
 firstOfUnion t before = isUnion t && eqb (length before) 0
 
+-- "id 0"
 unfoldable pub firstIdOk : Bool → Member → Bool
 firstIdOk first m = not first || eqb (m .id) 0
 
+-- "a type of kind 1 to 15, 19 or 21"
 unfoldable pub firstKindOk : List BookType → Bool → Member → Bool
 firstKindOk types first m =
     let kind = typeNo types (m .type) .kind in
     not first || (within (1 ‥ 15) kind || eqb kind 19 || eqb kind 21)
 
+-- "no default flag"
 unfoldable pub firstDefaultOk : Bool → Member → Bool
 firstDefaultOk first m = not first || not (default m)
 
+-- "no label"
 unfoldable pub firstLabelOk : Bool → Member → Bool
 firstLabelOk first m = not first || eqb (length (m .labels)) 0
 

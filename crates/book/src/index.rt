@@ -28,12 +28,6 @@ pub fn index(b: &[u8], lent: &mut [u32]) -> usize
     n
 }
 
-fn widen(x: u32) -> usize
-    ensures { λ r. ⌜ r ≡ x ⌝ }
-{
-    x as usize
-}
-
 // The place of type number k.
 pub fn place(b: &[u8], index: &[u32], k: usize) -> usize
     ensures { λ r. ⌜ PlaceOf (now (b .entry)) (now (index .entry)) k r ⌝ }
@@ -41,5 +35,5 @@ pub fn place(b: &[u8], index: &[u32], k: usize) -> usize
     if index.len() <= k {
         return b.len();
     }
-    widen(index[k])
+    ground::widen(index[k])
 }

@@ -4,9 +4,10 @@ ghost use mathlib.Core.Bool.{true, _&&_};
 ghost use mathlib.Core.List.{[]};
 ghost use Prim.Native.Nat.{ℕ, _<_, _≤_};
 ghost use lib.ListN.{length};
+ghost use Rattle.ground.specs.Choice.{every};
 ghost use Rattle.book.specs.Places.{from, memberAt, typeAt, listed, earlier, Below, typesBy};
 ghost use Rattle.book.specs.Rules.{headOk, filled, recordLengthOk, codesOk, boundsOk, elementOk, countOk, ownOk};
-ghost use Rattle.book.specs.Rules.{every, otherId, linkOk, firstIdOk, firstKindOk, firstDefaultOk, firstLabelOk};
+ghost use Rattle.book.specs.Rules.{otherId, linkOk, firstIdOk, firstKindOk, firstDefaultOk, firstLabelOk};
 ghost use Rattle.book.specs.Rules.{memberOk, membersOk, recordOk, recordsOk, bookOk};
 use crate::bytes::byte_at;
 use crate::bytes::left_at;
@@ -18,14 +19,12 @@ use crate::index::place;
 use crate::member;
 use crate::member::Run;
 use crate::types;
-
-const ENUM: usize = 21;
-
-const UNION: usize = 23;
-
-const SEQUENCE: usize = 25;
-
-const ARRAY: usize = 26;
+use crate::types::ANNOTATION;
+use crate::types::ARRAY;
+use crate::types::BITMASK;
+use crate::types::ENUM;
+use crate::types::SEQUENCE;
+use crate::types::UNION;
 
 // The index of no type.
 const NONE: usize = 65535;
@@ -110,11 +109,12 @@ fn count_ok(b: &[u8], at: usize) -> bool
         & (!((kind == ENUM) | (kind == UNION)) | (1 <= n))
 }
 
-// Whether the type is an extensibility and a kind that asks for nothing else. Most are, and keep every rule.
+// Whether the type has an extensibility and a kind that asks for nothing else, and no base, bound, element or member. Most have, and keep
+// every rule of their own bytes.
 fn is_plain(b: &[u8], at: usize) -> bool
     ensures { λ r. ⌜ ((k : ℕ) → r ≡ true → true ≡ ownOk k (typeAt (now (b .entry)) at)) ⌝ }
 {
-    if 20 < types::kind(b, at) {
+    if ANNOTATION < types::kind(b, at) {
         return false;
     }
     if 2 < types::extensibility(b, at) {
@@ -199,7 +199,7 @@ fn first_ok(b: &[u8], index: &[u32], p: usize, id: u32) -> bool
 {
     let kind = types::kind(b, place(b, index, member::type_index(b, p)));
     (id == 0)
-        & (ground::in_range(kind as u64, 1, 15) | (kind == 19) | (kind == 21))
+        & (ground::in_range(kind as u64, 1, 15) | (kind == BITMASK) | (kind == ENUM))
         & !member::is_default(b, p)
         & (member::label_count(b, p) == 0)
 }

@@ -7,6 +7,19 @@ use crate::bytes::byte_at;
 use crate::bytes::pair_at;
 use crate::bytes::quad_at;
 
+// The kinds that rules of a book name.
+pub const BITMASK: usize = 19;
+
+pub const ANNOTATION: usize = 20;
+
+pub const ENUM: usize = 21;
+
+pub const UNION: usize = 23;
+
+pub const SEQUENCE: usize = 25;
+
+pub const ARRAY: usize = 26;
+
 // How many types the book says it has.
 pub fn type_count(b: &[u8]) -> usize
     ensures { λ r. ⌜ (r ≡ typeCount (now (b .entry))) × (r < 65536) ⌝ }

@@ -1,5 +1,5 @@
 -- Laws of a case as bytes: its sizes, whether it is one, and what is read of it. Assumes nothing.
-use mathlib.Core.Path.{_≡_, refl, sym, ap, _∙_}
+use mathlib.Core.Path.{_≡_, refl, sym, _∙_}
 use mathlib.Core.Bool.{Bool, true, false, not, _&&_}
 use mathlib.Core.List.{List}
 use Prim.Native.Nat.{ℕ, _+_, _-_, _^_, _≤_, _<_}
@@ -11,8 +11,7 @@ use lib.Dec.{leb, eqb}
 use lib.ListN.{length, take, drop}
 use borrow.Author.Tests.{eqb-true, not-true, not-false}
 use Rattle.ground.specs.Choice.{pick, both, _‥_, within}
-use Rattle.ground.proofs.Tests.{and-both}
-use Rattle.book.proofs.Kept.{both-second}
+use Rattle.ground.proofs.Tests.{and-both, both-second}
 use Rattle.book.specs.Types.{pair, quad}
 use Rattle.book.specs.Places.{from}
 use Rattle.table.specs.Rows.{capacity}
@@ -21,7 +20,6 @@ use Rattle.sinotayam.specs.Answer.{Settled}
 use Rattle.sinotayam.specs.Entry.{readOf}
 use Rattle.cases.specs.declared.input.Input.{Input}
 use Rattle.cases.specs.declared.input.Input.the-variants as input
-use Rattle.cases.specs.declared.input.Reply.{Reply}
 use Rattle.cases.specs.declared.input.Reply.the-variants as reply
 use Rattle.cases.specs.Input.{bookSize, rootOf, messageSize, caseSize, inputOf, Replied}
 

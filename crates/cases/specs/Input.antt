@@ -20,12 +20,15 @@ use Rattle.cases.specs.declared.input.Reply.the-variants as reply
 abbrev pub bookSize : List ℕ → ℕ
 bookSize s = quad s 0
 
+-- "root u16", right after it
 abbrev pub rootOf : List ℕ → ℕ
 rootOf s = pair (from s (bookSize s)) 0
 
+-- "message length u32"
 abbrev pub messageSize : List ℕ → ℕ
 messageSize s = quad (from s (bookSize s)) 2
 
+-- the book, these six bytes, and the message
 abbrev pub caseSize : List ℕ → ℕ
 caseSize s = bookSize s + 6 + messageSize s
 

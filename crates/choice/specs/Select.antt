@@ -5,6 +5,7 @@ use lib.Dec.{eqb}
 use lib.IntN.{ℤ, pos}
 use Rattle.ground.specs.Choice.{pick}
 use Rattle.book.specs.Types.{BookType, Member, default, typeNo}
+use Rattle.book.specs.Rules.{isEnum}
 use Rattle.book.specs.Labels.{orElse, when, firstWith, lastDefault}
 
 -- the first literal with the default flag
@@ -28,7 +29,7 @@ labelOf (some m) = firstLabel (m .labels)
 
 -- "its default value (enum: first default literal, or literal 0; its first label, or 0. Others: 0)"
 unfoldable pub defaultValue : BookType → ℤ
-defaultValue t = pick (eqb (t .kind) 21) (labelOf (orElse (firstDefault (t .members)) (firstOf (t .members)))) (pos 0)
+defaultValue t = pick (isEnum t) (labelOf (orElse (firstDefault (t .members)) (firstOf (t .members)))) (pos 0)
 
 -- "if the discriminator is UseDefault, the first member whose label is its default value"
 unfoldable pub byDefaultValue : List BookType → Member → List Member → Option Member

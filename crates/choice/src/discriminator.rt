@@ -4,6 +4,22 @@ ghost use Rattle.choice.specs.Discriminator.{discriminatorIn, discrimina
 use table::rows::Row;
 use table::rows::row_at;
 
+// The kinds of rows whose value a label can be compared with.
+const INT16: u64 = 3;
+
+const INT32: u64 = 4;
+
+const UINT16: u64 = 6;
+
+const UINT32: u64 = 7;
+
+const INT8: u64 = 12;
+
+const UINT8: u64 = 13;
+
+// The kind of an enum's own row.
+const ENUM: u64 = 21;
+
 pub enum Discriminator {
     // It was not stored.
     Absent,
@@ -18,7 +34,13 @@ pub fn discriminator_in(r: Row) -> Discriminator
 {
     let kind = r.kind;
     let a = r.a;
-    if (kind == 3) | (kind == 4) | (kind == 6) | (kind == 7) | (kind == 12) | (kind == 13) {
+    if (kind == INT16)
+        | (kind == INT32)
+        | (kind == UINT16)
+        | (kind == UINT32)
+        | (kind == INT8)
+        | (kind == UINT8)
+    {
         return Discriminator::Value(wire::signed::as_i32((a % 0x1_0000_0000) as u32));
     }
     Discriminator::Unfit
@@ -33,7 +55,7 @@ pub fn discriminator_at(t: &[u64], n: usize, m: usize) -> Discriminator
     }
     let r = row_at(t, n);
     let kind = r.kind;
-    if kind == 21 {
+    if kind == ENUM {
         if m - n == 1 {
             return Discriminator::Unfit;
         }

@@ -1,6 +1,5 @@
 // The member that a discriminator's value selects.
 ghost use mathlib.Core.Path.{_≡_};
-ghost use Rattle.book.specs.Types.{typeNo};
 ghost use Rattle.book.specs.Places.{memberAt, typeAt, typesBy};
 ghost use Rattle.book.specs.Labels.{told};
 ghost use Rattle.choice.specs.Select.{firstDefault, defaultValue, byDefaultValue, selectedOf};
@@ -14,6 +13,10 @@ use book::member::is_default;
 use book::member::label;
 use book::member::members;
 use book::member::type_index;
+use book::types::ENUM;
+
+// The try-construct code of UseDefault.
+const USE_DEFAULT: usize = 0;
 
 // The first literal, of the enum at `at`, with the default flag.
 fn first_default(book: &[u8], at: usize) -> Found
@@ -34,7 +37,7 @@ fn first_default(book: &[u8], at: usize) -> Found
 pub fn default_value(book: &[u8], at: usize) -> i32
     ensures { λ r. ⌜ r ≡ defaultValue (typeAt (now (book .entry)) at) ⌝ }
 {
-    if book::types::kind(book, at) == 21 {
+    if book::types::kind(book, at) == ENUM {
         match first_default(book, at) {
             Found::At(p) => return label(book, p, 0),
             Found::Nothing => {
@@ -53,7 +56,7 @@ pub fn default_value(book: &[u8], at: usize) -> i32
 fn by_default_value(book: &[u8], index: &[u32], at: usize, p: usize) -> Found
     ensures { λ r. ⌜ told (now (book .entry)) r ≡ byDefaultValue (typesBy (now (book .entry)) (now (index .entry))) (memberAt (now (book .entry)) p) (typeAt (now (book .entry)) at .members) ⌝ }
 {
-    if construct(book, p) == 0 {
+    if construct(book, p) == USE_DEFAULT {
         let q = place(book, index, type_index(book, p));
         return first_with(book, at, default_value(book, q));
     }

@@ -6,12 +6,11 @@ use mathlib.Core.List.{List, [], _∷_}
 use native.Mathlib.Omega.{arith}
 use lib.Dec.{eqb}
 use borrow.Author.Tests.{eq-eqb, ne-eqb, not-true, not-false}
-use Rattle.ground.specs.Choice.{both, among}
+use Rattle.ground.specs.Choice.{both, every, among}
 use Rattle.kinds.specs.Kinds.{unsupportedMember, unsupportedElement, bitmaskStored}
 use Rattle.book.specs.declared.member.Run.{Run}
 use Rattle.book.specs.Types.{BookType, Member, bounded, typeNo}
 use Rattle.book.specs.Places.{memberAt, typeAt, typesBy, listed, Started, PlaceOf}
-use Rattle.book.specs.Rules.{every}
 use Rattle.book.proofs.Places.{run-more, run-none}
 use Rattle.book.proofs.Judging.{every-laws}
 use Rattle.fit.specs.Fit.{memberSupported, membersSupported, elementSupported, baseSupported, chooses, firstChooses, discriminatorFits}

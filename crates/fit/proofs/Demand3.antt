@@ -8,17 +8,17 @@ use native.Mathlib.Omega.{arith}
 use lib.Dec.{ltb}
 use lib.ListN.{length}
 use borrow.Author.Tests.{ltb-true, ltb-false}
+use Rattle.ground.proofs.Tests.{apart}
 use Rattle.wire.specs.declared.settings.Settings.{Settings}
 use Rattle.wire.specs.Place.{cursorAt}
 use Rattle.book.specs.Types.{BookType, typeCount, typesOf, typeNo}
 use Rattle.book.specs.Rules.{bookOk}
-use Rattle.book.proofs.Kept.{apart}
 use Rattle.table.specs.declared.rows.Row.{Row}
 use Rattle.table.specs.Outcome.{Outcome, numberOf, refusalNumber, rowsOf}
 use Rattle.reader.specs.Nested.{reading}
 use Rattle.fit.specs.Fit.{Passes}
 use Rattle.fit.specs.Shape as shape
-use Rattle.fit.specs.Shape.{Value, Opened, Elements, isNumber}
+use Rattle.fit.specs.Shape.{Value, Opened, Elements, isScalar}
 use Rattle.fit.specs.Walk.{span, direct, InOrder}
 use Rattle.fit.specs.Check.{fits, checkOf}
 use Rattle.fit.specs.Demand3.{Checked, fit, bad-book, bad-root, unfit, finished-reading, too-few-bytes, invalid-data, full-table, absent-discriminator, Untroubled}
@@ -77,8 +77,8 @@ module _ {types : List BookType} {s : List ℕ} {ty id : ℕ} where
 
   -- an array has exactly its stated size
   pub array-size : {r : Row} {rs : List Row} → Value types s ty id (r ∷ rs) → typeNo types ty .kind ≡ 26 → (r .b ≡ typeNo types ty .bound) × Elements types s (typeNo types ty .element) (typeNo types ty .bound) 0 rs
-  unfolding isNumber
-  array-size (shape.one (shape.number a b n)) e = absurd (apart (rw e at n))
+  unfolding isScalar
+  array-size (shape.one (shape.scalar a b n)) e = absurd (apart (rw e at n))
   array-size (shape.one (shape.text8 start n z i)) e = absurd (omega arith)
   array-size (shape.one (shape.text16 start n z i)) e = absurd (omega arith)
   array-size (shape.one (shape.nested (shape.opened (shape.enum a b z f)))) e = absurd (omega arith)

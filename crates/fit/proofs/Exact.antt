@@ -11,9 +11,9 @@ use lib.Seq.{getD-at}
 use lib.Dec.{ltb, leb}
 use borrow.Author.Tests.{ltb-true, ltb-false, leb-true, le-leb}
 use Rattle.ground.specs.Choice.{both}
+use Rattle.ground.proofs.Tests.{apart, both-first, both-second}
 use Rattle.kinds.specs.Kinds.{opens}
 use Rattle.book.specs.Types.{BookType, typeNo}
-use Rattle.book.proofs.Kept.{apart, both-first, both-second}
 use Rattle.fit.specs.Fit.{OneOf, Reach, here, there, Chain, last, opened, passed, Fit, Passes, linksOf, membersSupported, elementSupported, baseSupported, discriminatorFits}
 use Rattle.fit.specs.Check.{clausesMet, tooLong, longestFrom, withOwn, chainOf, chainsOf, fits}
 use Rattle.fit.proofs.Ends.{by-test}

@@ -6,10 +6,11 @@ use mathlib.Core.Bool.{Bool, true, not}
 use mathlib.Core.List.{List, [], _∷_, _++_}
 use native.Mathlib.Omega.{arith}
 use lib.ListN.{length}
+use Rattle.ground.specs.Choice.{every}
 use Rattle.kinds.specs.Kinds.{opens, storedOf, unsupportedMember, unsupportedElement, bitmaskStored, storedByBound}
 use Rattle.book.specs.Types.{BookType, Member, noIndex, default, bounded, labelsOf, memberOf, pastMember, membersOf, typeOf, pastType, typesFrom, typesOf, noType, typeNo}
 use Rattle.book.specs.Rules.{sizeOk, versionOk, typeCountOk, headOk, filled, recordLengthOk, kindOk, extensibilityOk, baseOk, boundFlagOk, codesOk, arrayBoundOk, boundOk, elementOk, memberCountOk, memberKindOk, someMemberOk, ownOk, boundsOk, countOk}
-use Rattle.book.specs.Rules.{every, otherId, idOk, linkOk, flagsOk, constructOk, labelCountOk, firstOfUnion, firstIdOk, firstKindOk, firstDefaultOk, firstLabelOk, memberOk, membersOk, typeOk, recordOk, recordsOk, bookOk}
+use Rattle.book.specs.Rules.{otherId, idOk, linkOk, flagsOk, constructOk, labelCountOk, firstOfUnion, firstIdOk, firstKindOk, firstDefaultOk, firstLabelOk, memberOk, membersOk, typeOk, recordOk, recordsOk, bookOk}
 use Rattle.table.specs.declared.rows.Row.{Row}
 use Rattle.table.specs.Rows.{row}
 use Rattle.reader.specs.Value.{readAs}

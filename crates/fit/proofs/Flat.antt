@@ -7,17 +7,16 @@ use native.Mathlib.Omega.{arith}
 use lib.Dec.{eqb}
 use lib.ListN.{length, getD, take, drop}
 use lib.Seq.{take-at}
-use Rattle.ground.specs.Choice.{both, among}
+use Rattle.ground.specs.Choice.{both, every, among}
+use Rattle.ground.proofs.Tests.{apart}
 use Rattle.kinds.specs.Kinds.{opens}
 use Rattle.book.specs.Types.{BookType, typeNo}
-use Rattle.book.specs.Rules.{every}
-use Rattle.book.proofs.Kept.{apart}
 use Rattle.table.specs.declared.rows.Row.{Row}
 use Rattle.table.specs.Rows.{row}
 use Rattle.fit.specs.Shape as shape
 use Rattle.fit.specs.Shape.{Opened, Beneath, Inside, storedKind}
 use Rattle.fit.specs.Flat.{RowFits}
-use Rattle.fit.proofs.KindTests.{among-each, number-row, number-kinds}
+use Rattle.fit.proofs.KindTests.{among-each, scalar-row, scalar-kinds}
 
 -- a row's kind that is no text's and opens nothing
 abbrev simple : ℕ → Bool
@@ -34,9 +33,9 @@ not-text16 : (k : ℕ) → simple k ≡ true → k ≡ 17 → ⊥
 unfolding opens
 not-text16 k e z = apart (rw z at e)
 
-simple-number : (k : ℕ) → among number-kinds k ≡ true → simple k ≡ true
+simple-scalar : (k : ℕ) → among scalar-kinds k ≡ true → simple k ≡ true
 unfolding opens every
-simple-number k e = among-each simple number-kinds tt k e
+simple-scalar k e = among-each simple scalar-kinds tt k e
 
 simple-base : (k : ℕ) → among (3 ∷ 4 ∷ 12 ∷ []) k ≡ true → simple k ≡ true
 unfolding opens every
@@ -124,7 +123,7 @@ module _ (types : List BookType) (s : List ℕ) where
         | shape.one (x → h) ↦ h
         | shape.sequence {rs = rs} n e (x → h) ↦ (other _ rs simple-list, h)
         | shape.array {rs = rs} e (x → h) ↦ (other _ rs simple-list, h)
-        | shape.number {ty = ty} a b n ↦ single _ (other _ [] (simple-number (storedKind (typeNo types ty)) (number-row (typeNo types ty) n)))
+        | shape.scalar {ty = ty} a b n ↦ single _ (other _ [] (simple-scalar (storedKind (typeNo types ty)) (scalar-row (typeNo types ty) n)))
         | shape.text8 start n e i ↦
             single _ (record { text8 = λ z. i; text16 = λ z. absurd (omega arith); opened = λ o. absurd (opened-no-text 16 16 refl o .0 refl) })
         | shape.text16 start n e i ↦

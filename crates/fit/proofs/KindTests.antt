@@ -6,15 +6,14 @@ use mathlib.Core.List.{List, [], _∷_}
 use native.Mathlib.Omega.{arith}
 use lib.Dec.{eqb, T}
 use borrow.Author.Tests.{eqb-true, ne-eqb, not-true}
-use Rattle.ground.specs.Choice.{pick, both, among, _‥_, within}
+use Rattle.ground.specs.Choice.{pick, both, every, among, _‥_, within}
+use Rattle.ground.proofs.Tests.{apart, both-first, both-second}
 use Rattle.ground.proofs.Between.{passes, between}
 use Rattle.book.specs.Types.{BookType, bounded}
-use Rattle.book.specs.Rules.{every}
-use Rattle.book.proofs.Kept.{apart, both-first, both-second}
 use Rattle.kinds.specs.Kinds.{isPrimitive, storedOf, opens, unsupportedMember, unsupportedElement, bitmaskStored, storedByBound}
 use Rattle.reader.specs.Value.{readAs}
 use Rattle.fit.specs.Fit.{chooses}
-use Rattle.fit.specs.Shape.{storedKind, isNumber}
+use Rattle.fit.specs.Shape.{storedKind, isScalar}
 
 pub true-is : (b : Bool) → T b → b ≡ true
 true-is true t = refl
@@ -40,12 +39,13 @@ among-each f (x ∷ xs) t k e =
 pub kind-each : (f : ℕ → Bool) → T (passes f 0 28) → (k : ℕ) → k ≤ 27 → f k ≡ true
 kind-each f t k h = true-is (f k) (between f 28 0 t k (omega arith) (omega arith))
 
-abbrev numbers : List ℕ
-numbers = 1 ∷ 2 ∷ 3 ∷ 4 ∷ 5 ∷ 6 ∷ 7 ∷ 8 ∷ 9 ∷ 10 ∷ 11 ∷ 12 ∷ 13 ∷ 14 ∷ 19 ∷ []
+-- the kinds of `isScalar`
+abbrev scalars : List ℕ
+scalars = 1 ∷ 2 ∷ 3 ∷ 4 ∷ 5 ∷ 6 ∷ 7 ∷ 8 ∷ 9 ∷ 10 ∷ 11 ∷ 12 ∷ 13 ∷ 14 ∷ 19 ∷ []
 
--- the kinds of a number's row
-abbrev pub number-kinds : List ℕ
-number-kinds = 1 ∷ 3 ∷ 4 ∷ 5 ∷ 6 ∷ 7 ∷ 8 ∷ 9 ∷ 10 ∷ 11 ∷ 12 ∷ 13 ∷ 14 ∷ []
+-- the kinds of a scalar's row
+abbrev pub scalar-kinds : List ℕ
+scalar-kinds = 1 ∷ 3 ∷ 4 ∷ 5 ∷ 6 ∷ 7 ∷ 8 ∷ 9 ∷ 10 ∷ 11 ∷ 12 ∷ 13 ∷ 14 ∷ []
 
 -- what is read as a single number or text: any primitive but CHAR16, STRING8, STRING16
 abbrev pub readable : ℕ → Bool
@@ -58,10 +58,11 @@ readableMember k =
 abbrev readableElement : ℕ → Bool
 readableElement k = pick (unsupportedElement k) true (pick (opens k) true (pick (eqb k 19) true (readable k)))
 
-abbrev numbered : ℕ → Bool
-numbered k =
+-- what is read, and is no bitmask and no text, is a scalar
+abbrev unmasked : ℕ → Bool
+unmasked k =
     pick (eqb k 19) true
-    (pick (eqb k 16) true (pick (eqb k 17) true (pick (readable k) (among numbers k) true)))
+    (pick (eqb k 16) true (pick (eqb k 17) true (pick (readable k) (among scalars k) true)))
 
 member-kinds : (k : ℕ) → k ≤ 27 → readableMember k ≡ true
 unfolding unsupportedMember opens isPrimitive
@@ -71,9 +72,9 @@ element-kinds : (k : ℕ) → k ≤ 27 → readableElement k ≡ true
 unfolding unsupportedElement opens isPrimitive
 element-kinds k h = kind-each readableElement tt k h
 
-numbered-kinds : (k : ℕ) → k ≤ 27 → numbered k ≡ true
+unmasked-kinds : (k : ℕ) → k ≤ 27 → unmasked k ≡ true
 unfolding isPrimitive
-numbered-kinds k h = kind-each numbered tt k h
+unmasked-kinds k h = kind-each unmasked tt k h
 
 -- what is opened is no bitmask, and is stored as it is
 opened-stored : (k : ℕ) → k ≤ 27 → opens k ≡ true → (eqb k 19 ≡ false) × (storedOf k ≡ k)
@@ -152,13 +153,13 @@ module _ (t : BookType) where
       by-mask (readable (readAs t) ≡ true) mask-readable (λ m.
       rw (plain-read m) (rw (u, o, m) at (element-kinds (t .kind) h)))
 
-  -- what is read and no text is a number
-  pub number-kind : t .kind ≤ 27 → readable (readAs t) ≡ true → (readAs t ≡ 16 → ⊥) → (readAs t ≡ 17 → ⊥) → isNumber t ≡ true
-  unfolding isNumber
-  number-kind h r p q =
-      by-mask (among numbers (t .kind) ≡ true) (λ m. rw (eqb-true (t .kind) 19 m)) (λ m.
+  -- what is read and no text is a scalar
+  pub scalar-kind : t .kind ≤ 27 → readable (readAs t) ≡ true → (readAs t ≡ 16 → ⊥) → (readAs t ≡ 17 → ⊥) → isScalar t ≡ true
+  unfolding isScalar
+  scalar-kind h r p q =
+      by-mask (among scalars (t .kind) ≡ true) (λ m. rw (eqb-true (t .kind) 19 m)) (λ m.
       let e = plain-read m in
-      rw m (rw (m, rw e at r, ne-eqb (t .kind) 16 (λ z. p (e ∙ z)), ne-eqb (t .kind) 17 (λ z. q (e ∙ z))) at (numbered-kinds (t .kind) h)))
+      rw m (rw (m, rw e at r, ne-eqb (t .kind) 16 (λ z. p (e ∙ z)), ne-eqb (t .kind) 17 (λ z. q (e ∙ z))) at (unmasked-kinds (t .kind) h)))
 
   -- what is read as a text is one
   pub text-kind : (n : ℕ) → among (16 ∷ 17 ∷ []) n ≡ true → readAs t ≡ n → t .kind ≡ n
@@ -168,9 +169,9 @@ module _ (t : BookType) where
       let z = among-each (λ k. not (among (16 ∷ 17 ∷ []) k)) (13 ∷ 6 ∷ 7 ∷ 8 ∷ []) tt n (rw (← e, mask-read m) (bitmask-among (bounded t) (t .bound))) in
       absurd (apart (rw h at z))) (λ m. sym (plain-read m) ∙ e)
 
-  -- a discriminator that is a number has a row of these kinds
-  pub chosen-stored : chooses t ≡ true → isNumber t ≡ true → among (3 ∷ 4 ∷ 6 ∷ 7 ∷ 12 ∷ 13 ∷ []) (storedKind t) ≡ true
-  unfolding chooses isNumber storedKind storedOf every bounded
+  -- a discriminator that is a scalar has a row of these kinds
+  pub chosen-stored : chooses t ≡ true → isScalar t ≡ true → among (3 ∷ 4 ∷ 6 ∷ 7 ∷ 12 ∷ 13 ∷ []) (storedKind t) ≡ true
+  unfolding chooses isScalar storedKind storedOf every bounded
   chosen-stored c n =
       by-mask (among (3 ∷ 4 ∷ 6 ∷ 7 ∷ 12 ∷ 13 ∷ []) (storedOf (readAs t)) ≡ true) (λ m.
       rw (mask-read m)
@@ -179,7 +180,7 @@ module _ (t : BookType) where
     where
       go : (b : Bool) → among (2 ∷ 3 ∷ 4 ∷ 6 ∷ 7 ∷ 12 ∷ 13 ∷ 21 ∷ []) (t .kind) ≡ b → (b || false) ≡ true → among (3 ∷ 4 ∷ 6 ∷ 7 ∷ 12 ∷ 13 ∷ []) (storedOf (t .kind)) ≡ true
       go true e h =
-          rw n at (among-each (λ k. pick (among numbers k) (among (3 ∷ 4 ∷ 6 ∷ 7 ∷ 12 ∷ 13 ∷ []) (storedOf k)) true) (2 ∷ 3 ∷ 4 ∷ 6 ∷ 7 ∷ 12 ∷ 13 ∷ 21 ∷ []) tt (t .kind) e)
+          rw n at (among-each (λ k. pick (among scalars k) (among (3 ∷ 4 ∷ 6 ∷ 7 ∷ 12 ∷ 13 ∷ []) (storedOf k)) true) (2 ∷ 3 ∷ 4 ∷ 6 ∷ 7 ∷ 12 ∷ 13 ∷ 21 ∷ []) tt (t .kind) e)
       go false e h = absurd (apart h)
 
   -- what is opened is stored as it is
@@ -192,18 +193,18 @@ module _ (t : BookType) where
   unfolding every
   block-kind e = plain-read (not-true (eqb (t .kind) 19) (among-each (λ k. not (eqb k 19)) (2 ∷ 13 ∷ []) tt (t .kind) e))
 
-  -- the row of a number is neither opened nor a list's
-  pub number-stored : isNumber t ≡ true → (opens (storedKind t) ≡ false) × (eqb (storedKind t) 25 ≡ false)
-  unfolding isNumber storedKind opens storedOf every
-  number-stored n =
+  -- the row of a scalar is neither opened nor a list's
+  pub scalar-stored : isScalar t ≡ true → (opens (storedKind t) ≡ false) × (eqb (storedKind t) 25 ≡ false)
+  unfolding isScalar storedKind opens storedOf every
+  scalar-stored n =
       by-mask ((opens (storedOf (readAs t)) ≡ false) × (eqb (storedOf (readAs t)) 25 ≡ false)) (λ m.
       rw (mask-read m) (
         not-true (opens (storedOf (bitmaskStored (bounded t) (t .bound)))) (among-each (λ k. not (opens (storedOf k))) (13 ∷ 6 ∷ 7 ∷ 8 ∷ []) tt (bitmaskStored (bounded t) (t .bound)) (bitmask-among (bounded t) (t .bound))),
         not-true (eqb (storedOf (bitmaskStored (bounded t) (t .bound))) 25) (among-each (λ k. not (eqb (storedOf k) 25)) (13 ∷ 6 ∷ 7 ∷ 8 ∷ []) tt (bitmaskStored (bounded t) (t .bound)) (bitmask-among (bounded t) (t .bound))),
       )) (λ m.
       rw (plain-read m) (
-        not-true (opens (storedOf (t .kind))) (among-each (λ k. not (opens (storedOf k))) numbers tt (t .kind) n),
-        not-true (eqb (storedOf (t .kind)) 25) (among-each (λ k. not (eqb (storedOf k) 25)) numbers tt (t .kind) n),
+        not-true (opens (storedOf (t .kind))) (among-each (λ k. not (opens (storedOf k))) scalars tt (t .kind) n),
+        not-true (eqb (storedOf (t .kind)) 25) (among-each (λ k. not (eqb (storedOf k) 25)) scalars tt (t .kind) n),
       ))
 
   -- what is stored as it is
@@ -212,10 +213,10 @@ module _ (t : BookType) where
   own-stored n e m = rw (plain-read (rw (← e) at m)) (ap storedOf e)
 
   -- it has one of these kinds
-  pub number-row : isNumber t ≡ true → among number-kinds (storedKind t) ≡ true
-  unfolding isNumber storedKind storedOf every
-  number-row n =
-      by-mask (among number-kinds (storedOf (readAs t)) ≡ true) (λ m.
+  pub scalar-row : isScalar t ≡ true → among scalar-kinds (storedKind t) ≡ true
+  unfolding isScalar storedKind storedOf every
+  scalar-row n =
+      by-mask (among scalar-kinds (storedOf (readAs t)) ≡ true) (λ m.
       rw (mask-read m)
-      (among-each (λ k. among number-kinds (storedOf k)) (13 ∷ 6 ∷ 7 ∷ 8 ∷ []) tt (bitmaskStored (bounded t) (t .bound)) (bitmask-among (bounded t) (t .bound)))) (λ m.
-      rw (plain-read m) (rw m at (among-each (λ k. pick (eqb k 19) true (among number-kinds (storedOf k))) numbers tt (t .kind) n)))
+      (among-each (λ k. among scalar-kinds (storedOf k)) (13 ∷ 6 ∷ 7 ∷ 8 ∷ []) tt (bitmaskStored (bounded t) (t .bound)) (bitmask-among (bounded t) (t .bound)))) (λ m.
+      rw (plain-read m) (rw m at (among-each (λ k. pick (eqb k 19) true (among scalar-kinds (storedOf k))) scalars tt (t .kind) n)))

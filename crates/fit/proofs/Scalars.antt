@@ -6,6 +6,7 @@ use mathlib.Core.List.{List, [], _∷_}
 use native.Mathlib.Omega.{arith}
 use lib.Dec.{eqb, T}
 use borrow.Author.Tests.{eqb-true, eqb-false, eq-eqb}
+use Rattle.ground.proofs.Tests.{apart}
 use Rattle.wire.specs.declared.cursor.Cursor.{Cursor}
 use Rattle.wire.specs.declared.settings.Settings.{Settings}
 use Rattle.wire.specs.declared.number.Number.{Number}
@@ -26,7 +27,6 @@ use Rattle.table.specs.declared.out.Refusal.the-variants.{InvalidData, NoRoom, 
 use Rattle.table.specs.Rows.{row}
 use Rattle.table.specs.Outcome.{Outcome}
 use Rattle.values.specs.Scalar.{rowed, onBoolean, onFloat128, onNumber, onText, scalarOf}
-use Rattle.book.proofs.Kept.{apart}
 use Rattle.fit.specs.Shape.{Inside}
 use Rattle.fit.proofs.Ends.{Ends, finished, wanting, broken, ends-room, by-test}
 use Rattle.fit.proofs.KindTests.{readable}

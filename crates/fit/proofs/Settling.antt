@@ -10,7 +10,8 @@ use lib.Dec.{eqb}
 use lib.ListN.{length}
 use lib.IntN.{ℤ}
 use borrow.Author.Tests.{eqb-true, eq-eqb, not-true}
-use Rattle.ground.specs.Choice.{among}
+use Rattle.ground.specs.Choice.{every, among}
+use Rattle.ground.proofs.Tests.{apart, both-first, both-second, one-second}
 use Rattle.wire.specs.declared.cursor.Cursor.{Cursor}
 use Rattle.wire.specs.declared.cursor.Place.{Place}
 use Rattle.wire.specs.declared.cursor.Place.the-variants as place
@@ -24,8 +25,7 @@ use Rattle.wire.specs.Place.{seekTo}
 use Rattle.wire.specs.Number.{readBoolean}
 use Rattle.kinds.specs.Kinds.{opens, unsupportedMember, unsupportedElement}
 use Rattle.book.specs.Types.{BookType, Member, optional, default, typeNo}
-use Rattle.book.specs.Rules.{isEnum, isList, every}
-use Rattle.book.proofs.Kept.{apart, both-first, both-second, or-other}
+use Rattle.book.specs.Rules.{isEnum, isList}
 use Rattle.choice.specs.Discriminator.{discriminatorOf}
 use Rattle.choice.specs.Select.{selectedOf}
 use Rattle.choice.specs.declared.discriminator.Discriminator.{Discriminator}
@@ -53,7 +53,7 @@ use Rattle.fit.specs.Fit.{OneOf, Fit, linksOf, memberTypes, memberSuppor
 use Rattle.fit.specs.Shape as shape
 use Rattle.fit.specs.Shape.{Value, Single, Elements, Opened, Beneath, Members, Held, storedKind}
 use Rattle.fit.proofs.Ends.{finished, wanting, broken, ends-prepend, ends-then, ends-end, ends-room, ends-closed, ends-back, ends-as, ends-move, ends-number, by-test}
-use Rattle.fit.proofs.KindTests.{readable, member-readable, element-readable, number-kind, text-kind, opened-kind, opened-flat, opened-union, block-kind, base-is}
+use Rattle.fit.proofs.KindTests.{readable, member-readable, element-readable, scalar-kind, text-kind, opened-kind, opened-flat, opened-union, block-kind, base-is}
 use Rattle.fit.proofs.Unions.{never-unfit, selected-other}
 use Rattle.fit.proofs.Scalars.{bad-data, no-room, no-discriminator, Settles, scalar-settles}
 
@@ -176,7 +176,7 @@ module _ (types : List BookType) (s : List ℕ) (set : Settings) (right : (k : �
   single-settles ty id c k h =
       let t = typeNo types ty in
       scalar-settles s set (readAs t) id c k h
-      (λ a b p q. shape.number a b (number-kind t (right ty .kind) h p q))
+      (λ a b p q. shape.scalar a b (scalar-kind t (right ty .kind) h p q))
       (λ start n e i. shape.text8 start n (text-kind t 16 refl e) i)
       (λ start n e i. shape.text16 start n (text-kind t 17 refl e) i)
 
@@ -235,7 +235,7 @@ module _ (types : List BookType) (s : List ℕ) (set : Settings) (right : (k : �
         rows count d g false q rs x =
             let t = typeNo types ty in
             let n : count ≡ t .bound = array-count s set (primitiveElement types t) (eqb (t .kind) 25) (t .bound) c count d q g in
-            rw n (shape.array (eqb-true (t .kind) 26 (or-other (eqb (t .kind) 25) (eqb (t .kind) 26) (list-is (t .kind) e) q)) (rw n at x))
+            rw n (shape.array (eqb-true (t .kind) 26 (one-second (eqb (t .kind) 25) (eqb (t .kind) 26) (list-is (t .kind) e) q)) (rw n at x))
 
     value-settles : (m : Member) (c : Cursor) (k : ℕ) → Ready types depth m → Settles (Held types s m) (valueOf types s set nest (m .type) (m .id) c k)
     unfolding valueOf memberSupported

@@ -8,12 +8,11 @@ use native.Mathlib.Omega.{arith}
 use lib.Dec.{eqb}
 use lib.IntN.{ℤ}
 use borrow.Author.Tests.{not-true}
-use Rattle.ground.specs.Choice.{pick, among}
+use Rattle.ground.specs.Choice.{pick, every, among}
+use Rattle.ground.proofs.Tests.{apart}
 use Rattle.book.specs.Types.{BookType, Member, default, typeNo}
 use Rattle.book.specs.Labels.{isIn, orElse, when, firstWith, lastDefault}
-use Rattle.book.specs.Rules.{every}
 use Rattle.book.proofs.Search.{or-none}
-use Rattle.book.proofs.Kept.{apart}
 use Rattle.table.specs.declared.rows.Row.{Row}
 use Rattle.table.specs.Rows.{row}
 use Rattle.choice.specs.Discriminator.{discriminatorIn, enumIn, discriminatorOf}
@@ -39,7 +38,7 @@ row-of kind id a b e z =
 pub never-unfit : (types : List BookType) (s : List ℕ) (m : Member) (rs : List Row) → Held types s m rs → chooses (typeNo types (m .type)) ≡ true → discriminatorOf rs ≡ Unfit → ⊥
 unfolding discriminatorOf enumIn chooses
 never-unfit types s m rs shape.absent c z = let q : _≡_ {A = ℕ} 0 1 = cc in omega arith
-never-unfit types s m rs (shape.present (shape.one (shape.number a b n))) c z = row-of (storedKind (typeNo types (m .type))) (m .id) a b (chosen-stored (typeNo types (m .type)) c n) z
+never-unfit types s m rs (shape.present (shape.one (shape.scalar a b n))) c z = row-of (storedKind (typeNo types (m .type))) (m .id) a b (chosen-stored (typeNo types (m .type)) c n) z
 never-unfit types s m rs (shape.present (shape.one (shape.text8 start n e i))) c z = apart (rw e at c)
 never-unfit types s m rs (shape.present (shape.one (shape.text16 start n e i))) c z = apart (rw e at c)
 never-unfit types s m rs (shape.present (shape.one (shape.nested (shape.opened (shape.enum a b e f))))) c z = row-in (row (typeNo types (m .type) .base) 0 a b) (base-is (typeNo types (m .type) .base) f .chooses) (rw e at z)

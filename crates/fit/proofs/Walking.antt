@@ -15,7 +15,7 @@ use Rattle.fit.specs.Fit.{OneOf}
 use Rattle.fit.specs.Shape as shape
 use Rattle.fit.specs.Shape.{Value, Single, Elements, Beneath, Members, Held, storedKind}
 use Rattle.fit.specs.Walk.{extent, extents, span, direct, InOrder, none-left, without, with}
-use Rattle.fit.proofs.KindTests.{number-stored, own-stored}
+use Rattle.fit.proofs.KindTests.{scalar-stored, own-stored}
 use Rattle.fit.proofs.Settling.{none-held}
 
 -- ---- where a value ends
@@ -47,8 +47,8 @@ pub record One (id kind : ℕ) (rs : List Row) : Type 0 where
 
 single-one : {types : List BookType} {s : List ℕ} {ty id : ℕ} {rs : List Row} → Single types s ty id rs → One id (storedKind (typeNo types ty)) rs
 unfolding extent storedOf opens
-single-one {types} {ty = ty} (shape.number a b n) =
-    let k = number-stored (typeNo types ty) n in
+single-one {types} {ty = ty} (shape.scalar a b n) =
+    let k = scalar-stored (typeNo types ty) n in
     record { first = _; others = []; is = refl; named = refl; stored = refl; long = rw (k .0); noList = k .1 }
 single-one {types} {ty = ty} (shape.text8 start n e i) =
     record { first = _; others = []; is = refl; named = refl; stored = sym (own-stored (typeNo types ty) 16 e refl); long = refl; noList = refl }

@@ -43,6 +43,7 @@ pub record Measured (types : List BookType) (n : ℕ) (before after : List ℕ) 
   pub long : length after ≡ length before
   pub is : take n after ≡ chainsOf types n
 
+-- the check passes: "root kind is 21 to 23", and no chain from it is longer than 16, nor is anything unfit
 unfoldable pub fits : List BookType → ℕ → Bool
 fits types root = both (opens (typeNo types root .kind)) (leb (chainOf types (chainsOf types root) (typeNo types root)) 16)
 

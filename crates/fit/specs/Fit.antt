@@ -7,10 +7,10 @@ use mathlib.Core.Path.{_≡_}
 use mathlib.Core.Bool.{Bool, true, false, not, _||_}
 use mathlib.Core.List.{List, [], _∷_, List·Memᴰ}
 use lib.Dec.{eqb}
-use Rattle.ground.specs.Choice.{pick, both, among}
+use Rattle.ground.specs.Choice.{pick, both, every, among}
 use Rattle.kinds.specs.Kinds.{opens, unsupportedMember, unsupportedElement, bitmaskStored}
 use Rattle.book.specs.Types.{BookType, Member, bounded, typeNo}
-use Rattle.book.specs.Rules.{isEnum, isUnion, isList, every}
+use Rattle.book.specs.Rules.{isEnum, isUnion, isList}
 
 -- x stands in the list
 abbrev pub OneOf : {A : Type 0} → A → List A → Type 0
@@ -37,6 +37,7 @@ pub data Reach (types : List BookType) : ℕ → ℕ → Type 0 where
 unfoldable pub memberSupported : List BookType → Member → Bool
 memberSupported types m = not (unsupportedMember (typeNo types (m .type) .kind))
 
+-- .. asked of each member; enum members have no type
 unfoldable pub membersSupported : List BookType → BookType → Bool
 membersSupported types t = pick (isEnum t) true (every (memberSupported types) (t .members))
 
@@ -59,6 +60,7 @@ unfoldable pub firstChooses : List BookType → List Member → Bool
 firstChooses types [] = false
 firstChooses types (m ∷ ms) = chooses (typeNo types (m .type))
 
+-- .. asked of unions alone
 unfoldable pub discriminatorFits : List BookType → BookType → Bool
 discriminatorFits types t = pick (isUnion t) (firstChooses types (t .members)) true
 

@@ -22,9 +22,9 @@ use Rattle.fit.specs.Fit.{OneOf}
 unfoldable pub storedKind : BookType → ℕ
 storedKind t = storedOf (readAs t)
 
--- numbers: 1 BOOLEAN to 14 CHAR8, and 19 BITMASK
-unfoldable pub isNumber : BookType → Bool
-isNumber t = among (1 ∷ 2 ∷ 3 ∷ 4 ∷ 5 ∷ 6 ∷ 7 ∷ 8 ∷ 9 ∷ 10 ∷ 11 ∷ 12 ∷ 13 ∷ 14 ∷ 19 ∷ []) (t .kind)
+-- "Scalars": 1 BOOLEAN to 14 CHAR8, and 19 BITMASK
+unfoldable pub isScalar : BookType → Bool
+isScalar t = among (1 ∷ 2 ∷ 3 ∷ 4 ∷ 5 ∷ 6 ∷ 7 ∷ 8 ∷ 9 ∷ 10 ∷ 11 ∷ 12 ∷ 13 ∷ 14 ∷ 19 ∷ []) (t .kind)
 
 -- a text that lies inside the data, with so many bytes to a unit
 abbrev pub Inside : List ℕ → ℕ → ℕ → ℕ → Type 0
@@ -44,9 +44,10 @@ mutual
         → Elements types s (typeNo types ty .element) (typeNo types ty .bound) 0 rs
         → Value types s ty id (row 25 id (storedKind (typeNo types (typeNo types ty .element))) (typeNo types ty .bound) ∷ rs)
 
-  -- a value that is no list: a number, a text, or a structure, enum or union
+  -- a value that is no list: a scalar, a text, or a structure, enum or union
   pub data Single (types : List BookType) (s : List ℕ) : ℕ → ℕ → List Row → Type 0 where
-    number : {ty id : ℕ} (a b : ℕ) → isNumber (typeNo types ty) ≡ true → Single types s ty id (row (storedKind (typeNo types ty)) id a b ∷ [])
+    -- "Scalars put the value in a", and FLOAT128 its high half in b
+    scalar : {ty id : ℕ} (a b : ℕ) → isScalar (typeNo types ty) ≡ true → Single types s ty id (row (storedKind (typeNo types ty)) id a b ∷ [])
     -- "Text 16: a start in the data, b bytes; 17: b 16-bit units."
     text8 : {ty id : ℕ} (start n : ℕ) → typeNo types ty .kind ≡ 16 → Inside s start n 1 → Single types s ty id (row 16 id start n ∷ [])
     text16 : {ty id : ℕ} (start n : ℕ) → typeNo types ty .kind ≡ 17 → Inside s start n 2 → Single types s ty id (row 17 id start n ∷ [])

@@ -11,6 +11,18 @@ use book::member::type_index;
 use book::types::bound;
 use book::types::element;
 use book::types::is_bounded;
+use kinds::names::ARRAY;
+use kinds::names::BITMASK;
+use kinds::names::BYTE;
+use kinds::names::ENUM;
+use kinds::names::INT8;
+use kinds::names::INT16;
+use kinds::names::INT32;
+use kinds::names::SEQUENCE;
+use kinds::names::UINT8;
+use kinds::names::UINT16;
+use kinds::names::UINT32;
+use kinds::names::UNION;
 use reader::types::base_at;
 use reader::types::kind_at;
 
@@ -30,7 +42,7 @@ fn member_supported(book: &[u8], index: &[u32], p: usize) -> bool
 fn members_supported(book: &[u8], index: &[u32], at: usize) -> bool
     ensures { λ r. ⌜ r ≡ membersSupported (typesBy (now (book .entry)) (now (index .entry))) (typeAt (now (book .entry)) at) ⌝ }
 {
-    if kind_at(book, at) == 21 {
+    if kind_at(book, at) == ENUM {
         return true;
     }
     let mut ms = members(book, at);
@@ -48,7 +60,7 @@ fn element_supported(book: &[u8], index: &[u32], at: usize) -> bool
     ensures { λ r. ⌜ r ≡ elementSupported (typesBy (now (book .entry)) (now (index .entry))) (typeAt (now (book .entry)) at) ⌝ }
 {
     let kind = kind_at(book, at);
-    if (kind == 25) | (kind == 26) {
+    if (kind == SEQUENCE) | (kind == ARRAY) {
         return !kinds::unsupported_element(kind_of(book, index, element(book, at)));
     }
     true
@@ -58,9 +70,9 @@ fn base_supported(book: &[u8], at: usize) -> bool
     ensures { λ r. ⌜ r ≡ baseSupported (typeAt (now (book .entry)) at) ⌝ }
 {
     let kind = kind_at(book, at);
-    if kind == 21 {
+    if kind == ENUM {
         let base = base_at(book, at);
-        return (base == 3) | (base == 4) | (base == 12);
+        return (base == INT16) | (base == INT32) | (base == INT8);
     }
     true
 }
@@ -70,24 +82,24 @@ fn chooses(book: &[u8], at: usize) -> bool
     ensures { λ r. ⌜ r ≡ chooses (typeAt (now (book .entry)) at) ⌝ }
 {
     let kind = kind_at(book, at);
-    if kind == 19 {
+    if kind == BITMASK {
         let stored = kinds::bitmask_stored(is_bounded(book, at), bound(book, at));
-        return (stored == 13) | (stored == 6) | (stored == 7);
+        return (stored == UINT8) | (stored == UINT16) | (stored == UINT32);
     }
-    (kind == 2)
-        | (kind == 3)
-        | (kind == 4)
-        | (kind == 6)
-        | (kind == 7)
-        | (kind == 12)
-        | (kind == 13)
-        | (kind == 21)
+    (kind == BYTE)
+        | (kind == INT16)
+        | (kind == INT32)
+        | (kind == UINT16)
+        | (kind == UINT32)
+        | (kind == INT8)
+        | (kind == UINT8)
+        | (kind == ENUM)
 }
 
 fn discriminator_fits(book: &[u8], index: &[u32], at: usize) -> bool
     ensures { λ r. ⌜ r ≡ discriminatorFits (typesBy (now (book .entry)) (now (index .entry))) (typeAt (now (book .entry)) at) ⌝ }
 {
-    if kind_at(book, at) == 23 {
+    if kind_at(book, at) == UNION {
         let ms = members(book, at);
         let p = ms.at;
         if ms.left == 0 {

@@ -18,12 +18,18 @@ use book::member::type_index;
 use book::types::element;
 use book::types::type_count;
 use clauses::clauses_met;
+use kinds::names::ARRAY;
+use kinds::names::ENUM;
+use kinds::names::SEQUENCE;
 use reader::types::kind_at;
 
 // The most types that a book has.
 const TYPES: usize = 64;
 
-// Stands for a type that is not fit.
+// The longest chain of structures, enums and unions that a reading opens.
+const LONGEST: u8 = 16;
+
+// Stands for a type that is not fit: one more.
 const TOO_LONG: u8 = 17;
 
 // What stands for type number k: a type that is not below is not fit.
@@ -47,10 +53,10 @@ fn longest(book: &[u8], lower: &[u8], at: usize) -> u8
     ensures { λ r. ⌜ r ≡ longestFrom (now (lower .entry)) 0 (linksOf (typeAt (now (book .entry)) at)) ⌝ }
 {
     let kind = kind_at(book, at);
-    if (kind == 25) | (kind == 26) {
+    if (kind == SEQUENCE) | (kind == ARRAY) {
         return standing(lower, element(book, at));
     }
-    if kind == 21 {
+    if kind == ENUM {
         return 0;
     }
     let mut m: u8 = 0;
@@ -71,7 +77,7 @@ fn chain(book: &[u8], index: &[u32], lower: &[u8], at: usize) -> u8
         return TOO_LONG;
     }
     let m = longest(book, lower, at);
-    if 16 < m {
+    if LONGEST < m {
         return TOO_LONG;
     }
     if kinds::opens(kind_at(book, at)) {
@@ -105,7 +111,7 @@ fn fits_by(book: &[u8], index: &[u32], root: usize) -> bool
     }
     let mut lent = [0u8; TYPES];
     chains(book, index, &mut lent, root);
-    chain(book, index, &lent[0..root], at) <= 16
+    chain(book, index, &lent[0..root], at) <= LONGEST
 }
 
 // The type check: 0 where it passes, 8 for a book that breaks a rule, 9 for a root that the book has not, and 16 for a type that is not fit.

@@ -1,4 +1,4 @@
--- How a definition picks a case.
+-- How a definition picks a case, and the tests that it asks.
 use Prim.Native.Nat.{ℕ}
 use mathlib.Core.List.{List, [], _∷_}
 use mathlib.Core.Bool.{Bool, true, false, _||_}
@@ -13,6 +13,11 @@ pick false a b = b
 abbrev pub both : Bool → Bool → Bool
 both true b = b
 both false b = false
+
+-- each of these passes
+unfoldable pub every : {A : Type 0} → (A → Bool) → List A → Bool
+every f [] = true
+every f (x ∷ xs) = both (f x) (every f xs)
 
 -- k is one of these numbers
 abbrev pub among : List ℕ → ℕ → Bool

@@ -11,6 +11,13 @@ pub fn wide(x: u8) -> u64
     x as u64
 }
 
+// A word of 32 bits as a place in a list, said once for the same reason.
+pub fn widen(x: u32) -> usize
+    ensures { λ r. ⌜ r ≡ x ⌝ }
+{
+    x as usize
+}
+
 // Whether x is one of the numbers from `from` to `to`.
 pub fn in_range(x: u64, from: u64, to: u64) -> bool
     ensures { λ r. ⌜ r ≡ within (from ‥ to) x ⌝ }

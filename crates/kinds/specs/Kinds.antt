@@ -2,7 +2,7 @@
 -- 10 FLOAT64, 11 FLOAT128, 12 INT8, 13 UINT8, 14 CHAR8, 15 CHAR16, 16 STRING8, 17 STRING16, 18 ALIAS, 19 BITMASK, 20 ANNOTATION,
 -- 21 ENUM, 22 STRUCTURE, 23 UNION, 24 BITSET, 25 SEQUENCE, 26 ARRAY, 27 MAP." A code of 28 or more has what NONE has.
 use Prim.Native.Nat.{ℕ}
-use mathlib.Core.List.{List, [], _∷_}
+use mathlib.Core.List.{[], _∷_}
 use mathlib.Core.Bool.{Bool, _||_}
 use lib.Dec.{eqb}
 use Rattle.ground.specs.Choice.{pick, among, _‥_, within}

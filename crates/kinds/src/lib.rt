@@ -2,6 +2,25 @@
 ghost use mathlib.Core.Path.{_≡_};
 ghost use Rattle.kinds.specs.Kinds.{entryOf, isPrimitive, isSigned, unsupportedMember, unsupportedElement, opens, storedByBound, bitmaskStored};
 
+pub mod names;
+
+use names::ALIAS;
+use names::ANNOTATION;
+use names::BITSET;
+use names::CHAR16;
+use names::ENUM;
+use names::INT8;
+use names::INT16;
+use names::INT32;
+use names::INT64;
+use names::MAP;
+use names::NONE;
+use names::UINT8;
+use names::UINT16;
+use names::UINT32;
+use names::UINT64;
+use names::UNION;
+
 pub struct Entry {
     // What a number of this kind is aligned to: its own size. 0 for what is no number.
     pub align: u8,
@@ -199,38 +218,42 @@ pub fn is_primitive(kind: u8) -> bool
 pub fn is_signed(kind: u8) -> bool
     ensures { λ r. ⌜ r ≡ isSigned kind ⌝ }
 {
-    (kind == 3) | (kind == 4) | (kind == 5) | (kind == 12)
+    (kind == INT16) | (kind == INT32) | (kind == INT64) | (kind == INT8)
 }
 
 // The kinds that no member may have, where one is read.
 pub fn unsupported_member(kind: u8) -> bool
     ensures { λ r. ⌜ r ≡ unsupportedMember kind ⌝ }
 {
-    (kind == 15) | (kind == 18) | (kind == 20) | (kind == 24) | (kind == 27)
+    (kind == CHAR16) | (kind == ALIAS) | (kind == ANNOTATION) | (kind == BITSET) | (kind == MAP)
 }
 
 // The kinds that no element of a list may have.
 pub fn unsupported_element(kind: u8) -> bool
     ensures { λ r. ⌜ r ≡ unsupportedElement kind ⌝ }
 {
-    (kind == 0) | (kind == 15) | (kind == 18) | (kind == 20) | ((24 <= kind) & (kind <= 27))
+    (kind == NONE)
+        | (kind == CHAR16)
+        | (kind == ALIAS)
+        | (kind == ANNOTATION)
+        | ((BITSET <= kind) & (kind <= MAP))
 }
 
 // A structure, an enum or a union.
 pub fn opens(kind: u8) -> bool
     ensures { λ r. ⌜ r ≡ opens kind ⌝ }
 {
-    (21 <= kind) & (kind <= 23)
+    (ENUM <= kind) & (kind <= UNION)
 }
 
 fn stored_by_bound(bound: u32) -> u8
     ensures { λ r. ⌜ r ≡ storedByBound bound ⌝ }
 {
     match bound {
-        1..=8 => 13,
-        9..=16 => 6,
-        17..=32 => 7,
-        _ => 8,
+        1..=8 => UINT8,
+        9..=16 => UINT16,
+        17..=32 => UINT32,
+        _ => UINT64,
     }
 }
 

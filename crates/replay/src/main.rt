@@ -7,6 +7,7 @@
 use book::bytes::pair_at;
 use book::bytes::quad_at;
 use libc::STDOUT_FILENO;
+use table::rows::WIDTH;
 
 // The longest entry: a book of 65,536 bytes and a message of one more, and eight bytes.
 const LONGEST: usize = 131081;
@@ -28,10 +29,10 @@ fn say(book: &[u8], root: usize, message: &[u8], table: &mut [u64]) {
 
 // Reads the message with the first `rows` rows of the table; false where it has fewer.
 fn read(book: &[u8], root: usize, message: &[u8], table: &mut [u64], rows: usize) -> bool {
-    if table.len() / 4 < rows {
+    if table.len() / WIDTH < rows {
         return false;
     }
-    let words = rows * 4;
+    let words = rows * WIDTH;
     say(book, root, message, &mut table[0..words]);
     true
 }

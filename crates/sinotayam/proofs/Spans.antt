@@ -17,7 +17,7 @@ use Rattle.sinotayam.specs.declared.answer.Number.the-variants.{Read, No
 use Rattle.sinotayam.specs.declared.texts.Span.{Span}
 use Rattle.sinotayam.specs.declared.texts.Span.the-variants.{At, Nothing}
 use Rattle.sinotayam.specs.Answer.{codeOf}
-use Rattle.sinotayam.specs.Text.{textBytes, spanOf, partAt, numberAt}
+use Rattle.sinotayam.specs.Text.{textBytes, spanOf, partAt, spanNumber}
 
 either : (a b : Bool) → (a || (b || false)) ≡ (a || b)
 either true b = refl
@@ -109,10 +109,10 @@ module _ (s : List ℕ) (x y : Span) (is : x ≡ y) where
   part-none e = ap (partAt s) (sym e ∙ is)
 
 module _ (x y : Span) (is : x ≡ y) where
-  pub number-at : (start n : ℕ) → x ≡ At start n → codeOf Read ≡ numberAt y
-  unfolding numberAt codeOf
-  number-at start n e = ap numberAt (sym e ∙ is)
+  pub number-at : (start n : ℕ) → x ≡ At start n → codeOf Read ≡ spanNumber y
+  unfolding spanNumber codeOf
+  number-at start n e = ap spanNumber (sym e ∙ is)
 
-  pub number-none : x ≡ Nothing → codeOf NotText ≡ numberAt y
-  unfolding numberAt codeOf
-  number-none e = ap numberAt (sym e ∙ is)
+  pub number-none : x ≡ Nothing → codeOf NotText ≡ spanNumber y
+  unfolding spanNumber codeOf
+  number-none e = ap spanNumber (sym e ∙ is)

@@ -18,7 +18,7 @@ use Rattle.fit.specs.Shape.{Inside, Opened}
 use Rattle.fit.specs.Flat.{RowFits}
 use Rattle.fit.proofs.Flat.{each-row}
 use Rattle.sinotayam.specs.Answer.{tableOf}
-use Rattle.sinotayam.specs.Text.{textBytes, spanOf, numberAt, textNumber}
+use Rattle.sinotayam.specs.Text.{textBytes, spanOf, spanNumber, textNumber}
 
 -- the rows of a finished reading are read back from the table that it leaves
 row-in : {t : List ℕ} (n : ℕ) (rs : List Row) (i : ℕ) → Filled t t n rs → i < length rs → rowAt t (n + i) ≡ getD rs i (row 0 0 0 0)
@@ -33,18 +33,18 @@ filled-table before rs = record { long = refl; kept = refl; rows = take-at (word
 
 -- a text that lies inside the data
 module _ (r : Row) (s : List ℕ) where
-  eight : r .kind ≡ 16 → Inside s (r .a) (r .b) 1 → numberAt (spanOf r (length s)) ≡ 0
-  unfolding spanOf textBytes numberAt
+  eight : r .kind ≡ 16 → Inside s (r .a) (r .b) 1 → spanNumber (spanOf r (length s)) ≡ 0
+  unfolding spanOf textBytes spanNumber
   eight e i = rw (e, le-leb (r .a + r .b) (length s) (omega arith))
 
-  sixteen : r .kind ≡ 17 → Inside s (r .a) (r .b) 2 → numberAt (spanOf r (length s)) ≡ 0
-  unfolding spanOf textBytes numberAt
+  sixteen : r .kind ≡ 17 → Inside s (r .a) (r .b) 2 → spanNumber (spanOf r (length s)) ≡ 0
+  unfolding spanOf textBytes spanNumber
   sixteen e i = rw (e, le-leb (r .a + (r .b + r .b)) (length s) (omega arith))
 
-  fitting : {types : List BookType} {after : List Row} → RowFits types s r after → among (16 ∷ 17 ∷ []) (r .kind) ≡ true → numberAt (spanOf r (length s)) ≡ 0
+  fitting : {types : List BookType} {after : List Row} → RowFits types s r after → among (16 ∷ 17 ∷ []) (r .kind) ≡ true → spanNumber (spanOf r (length s)) ≡ 0
   fitting x = by (eqb (r .kind) 16) refl (eqb (r .kind) 17) refl
     where
-      by : (f : Bool) → eqb (r .kind) 16 ≡ f → (g : Bool) → eqb (r .kind) 17 ≡ g → (f || (g || false)) ≡ true → numberAt (spanOf r (length s)) ≡ 0
+      by : (f : Bool) → eqb (r .kind) 16 ≡ f → (g : Bool) → eqb (r .kind) 17 ≡ g → (f || (g || false)) ≡ true → spanNumber (spanOf r (length s)) ≡ 0
       by true e g k t = let z : r .kind ≡ 16 = eqb-true (r .kind) 16 e in eight z (x .text8 z)
       by false e true k t = let z : r .kind ≡ 17 = eqb-true (r .kind) 17 k in sixteen z (x .text16 z)
       by false e false k t = absurd (let z : _≡_ {A = ℕ} 0 1 = cc in omega arith)

@@ -23,9 +23,9 @@ partAt s (At start n) = take n (drop start s)
 partAt s Nothing = []
 
 -- "A companion call .. tells which: 0 or 15."
-unfoldable pub numberAt : Span → ℕ
-numberAt (At start n) = 0
-numberAt Nothing = 15
+unfoldable pub spanNumber : Span → ℕ
+spanNumber (At start n) = 0
+spanNumber Nothing = 15
 
 -- a row outside the table is all 0, which is no text
 abbrev pub spanIn : List ℕ → ℕ → List ℕ → Span
@@ -35,4 +35,4 @@ abbrev pub textOf : List ℕ → ℕ → List ℕ → List ℕ
 textOf table row s = partAt s (spanIn table row s)
 
 abbrev pub textNumber : List ℕ → ℕ → List ℕ → ℕ
-textNumber table row s = numberAt (spanIn table row s)
+textNumber table row s = spanNumber (spanIn table row s)

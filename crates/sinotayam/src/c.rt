@@ -12,12 +12,16 @@ use crate::read;
 use crate::read_prepared;
 use crate::texts::text_number;
 
+// 2 to the 56th: beside the number's byte a word has 56 bits for the count of rows.
+const COUNTS: u64 = 72057594037927936;
+
+// The number and the count of rows in one word, which is what a C call hands back.
 fn pack(a: Answer) -> u64
     ensures { λ r. ⌜ r ≡ packed (codeOf (a .number)) (a .rows) ⌝ }
 {
     let number = a.number;
     let rows = a.rows as u64;
-    rows % 72057594037927936 * 256 + ground::wide(number.code())
+    rows % COUNTS * 256 + ground::wide(number.code())
 }
 
 #[no_mangle]

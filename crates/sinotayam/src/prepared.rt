@@ -40,12 +40,6 @@ pub fn prepare(book: &[u8], lent: &mut [u32]) -> Number
     Number::Read
 }
 
-fn widen(x: u32) -> usize
-    ensures { λ r. ⌜ r ≡ x ⌝ }
-{
-    x as usize
-}
-
 // How many types an index holds: as many as it says, and no more than it has.
 pub fn count(index: &[u32]) -> usize
     ensures { λ r. ⌜ (r ≡ length (placesIn (now (index .entry)))) × (r ≤ length (now (index .entry)) - 1) ⌝ }
@@ -53,7 +47,7 @@ pub fn count(index: &[u32]) -> usize
     if index.len() == 0 {
         return 0;
     }
-    let n = widen(index[0]);
+    let n = ground::widen(index[0]);
     if index.len() - 1 < n {
         return index.len() - 1;
     }

@@ -6,6 +6,11 @@ use crate::answer::Number;
 use table::rows::Row;
 use table::rows::row_at;
 
+// The kinds of text rows.
+const STRING8: u64 = 16;
+
+const STRING16: u64 = 17;
+
 // Where a text stands in the data: its start, and how many bytes.
 pub enum Span {
     At(usize, usize),
@@ -19,7 +24,7 @@ fn span_of(r: Row, size: usize) -> Span
     let kind = r.kind;
     let start = r.a as usize;
     let units = r.b as usize;
-    if !((kind == 16) | (kind == 17)) {
+    if !((kind == STRING8) | (kind == STRING16)) {
         return Span::Nothing;
     }
     if size < start {
@@ -28,7 +33,7 @@ fn span_of(r: Row, size: usize) -> Span
     if size - start < units {
         return Span::Nothing;
     }
-    if kind == 16 {
+    if kind == STRING8 {
         return Span::At(start, units);
     }
     if size - start - units < units {

@@ -12,6 +12,7 @@ use Rattle.table.specs.declared.rows.Row.{Row}
 abbrev pub row : ℕ → ℕ → ℕ → ℕ → Row
 row k i a b = record { kind = k; id = i; a = a; b = b }
 
+-- "four u64"
 abbrev pub width : ℕ
 width = 4
 
@@ -28,6 +29,7 @@ capacity t = length t / width
 unfoldable pub room : List ℕ → ℕ → ℕ
 room t n = capacity t - n
 
+-- .. which is none
 unfoldable pub noRoom : List ℕ → ℕ → Bool
 noRoom t n = leb (capacity t) n
 

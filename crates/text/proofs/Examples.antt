@@ -1,8 +1,9 @@
 -- Worked examples of the definitions, computed: sequences of the Unicode standard, and document 01's examples. Assumes nothing.
 use Prim.Native.Nat.{ℕ}
 use mathlib.Core.Path.{_≡_, refl}
-use mathlib.Core.Bool.{Bool, true, not, _&&_}
+use mathlib.Core.Bool.{Bool, true, not}
 use mathlib.Core.List.{List, [], _∷_}
+use Rattle.ground.specs.Choice.{every}
 use Rattle.wire.specs.Identifier.{settings}
 use Rattle.wire.specs.Place.{cursorAt, shortAt, alignmentOf, paddingOf, seekTo, alignTo, afterMove}
 use Rattle.wire.specs.Number.{numberAt, onBytes, numberHere, onAligned, readNumber, afterNumber}
@@ -12,10 +13,6 @@ use Rattle.text.specs.Unicode.{table37, table16, follow, restGood, utf8,
 use Rattle.text.specs.Text.{bytesHere, stringType, andThen, readUnits, onUnits, unitsHere, wideHere, wstringType}
 use Rattle.text.specs.declared.string.Text.{Text}
 use Rattle.text.specs.declared.string.Text.the-variants.{Got, Short, Bad}
-
-abbrev every : (List ℕ → Bool) → List (List ℕ) → Bool
-every f [] = true
-every f (x ∷ xs) = f x && every f xs
 
 abbrev none : (List ℕ → Bool) → List (List ℕ) → Bool
 none f xs = every (λ x. not (f x)) xs
@@ -29,7 +26,7 @@ utf8-well-formed : every utf8 (
     (0xE0 ∷ 0xA0 ∷ 0x80 ∷ []) ∷ (0xEF ∷ 0xBF ∷ 0xBF ∷ []) ∷
     (0xF0 ∷ 0x90 ∷ 0x80 ∷ 0x80 ∷ []) ∷ (0xF4 ∷ 0x8F ∷ 0xBF ∷ 0xBF ∷ []) ∷
     (0xED ∷ 0x9F ∷ 0xBF ∷ []) ∷ (0xEE ∷ 0x80 ∷ 0x80 ∷ []) ∷ []) ≡ true
-unfolding table37 follow restGood
+unfolding every table37 follow restGood
 utf8-well-formed = refl
 
 utf8-ill-formed : none utf8 (
@@ -39,17 +36,17 @@ utf8-ill-formed : none utf8 (
     (0xED ∷ 0xA0 ∷ 0x80 ∷ []) ∷ (0xF4 ∷ 0x90 ∷ 0x80 ∷ 0x80 ∷ []) ∷ (0xF5 ∷ 0x80 ∷ 0x80 ∷ 0x80 ∷ []) ∷
     -- a later byte alone; cut short; broken off
     (0x80 ∷ []) ∷ (0xE4 ∷ 0xBA ∷ []) ∷ (0xF0 ∷ 0x9F ∷ 0x98 ∷ []) ∷ (0xE4 ∷ 0xBA ∷ 0x41 ∷ []) ∷ []) ≡ true
-unfolding table37 follow restGood
+unfolding every table37 follow restGood
 utf8-ill-formed = refl
 
 -- U+10302 and U+004D; ends of the three rows
 utf16-well-formed : every utf16 ((0xD800 ∷ 0xDF02 ∷ 0x004D ∷ []) ∷ (0xD7FF ∷ 0xE000 ∷ 0xFFFF ∷ []) ∷ (0xDBFF ∷ 0xDFFF ∷ []) ∷ []) ≡ true
-unfolding table16 follow restGood
+unfolding every table16 follow restGood
 utf16-well-formed = refl
 
 -- either half alone, and the high half before another character
 utf16-ill-formed : none utf16 ((0xDF02 ∷ []) ∷ (0xD800 ∷ []) ∷ (0xD800 ∷ 0x0041 ∷ []) ∷ []) ≡ true
-unfolding table16 follow restGood
+unfolding every table16 follow restGood
 utf16-ill-formed = refl
 
 abbrev string8 : List ℕ → Text

@@ -23,7 +23,6 @@ use Rattle.wire.proofs.Moves.{seek-at, seek-inv}
 use Rattle.wire.proofs.Numbers.{read-inv}
 use Rattle.text.specs.Unicode.{utf8, utf16, restGood}
 use Rattle.text.specs.Text.{part, judged, bytesHere, stringType, Units, short, units, andThen, readUnits, onUnits, unitsHere, wideHere, wstringType}
-use Rattle.text.specs.declared.string.Text.{Text}
 use Rattle.text.specs.declared.string.Text.the-variants as text
 
 -- n pieces of this size from `start`, all in the data; the reading moved past them and kept its origin

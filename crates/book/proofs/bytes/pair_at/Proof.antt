@@ -1,14 +1,10 @@
+-- `book::bytes::pair_at` is the number of two bytes: read together where both are there, and one by one, a byte past the end being 0. Assumes nothing.
 use native.Mathlib.Omega.{arith}
 use lib.Dec.{lit<}
 use Rattle.book.proofs.Places.{fits, pair-here}
 use borrow.Author.Needs.{needs}
 use Rattle.book.proofs.bytes.pair_at.Statement.{statement}
 use Rattle.book.proofs.bytes.pair_at.Tie as tie
-use Rattle.book.proofs.bytes.pair_at.Reads as reads
-use Rattle.book.proofs.bytes.pair_at.Lts as lts
-use Rattle.book.proofs.bytes.byte_at.Reads as byte-at-reads
-use Rattle.book.proofs.bytes.left_at.Reads as left-at-reads
-use Rattle.wire.proofs.number.two.Reads as two-reads
 
 add-if1 : tie.Need-add-if1
 add-if1 c = search needs

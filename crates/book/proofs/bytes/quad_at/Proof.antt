@@ -1,14 +1,10 @@
+-- `book::bytes::quad_at` is the number of four bytes: read together where all are there, and two by two, a byte past the end being 0. Assumes nothing.
 use native.Mathlib.Omega.{arith}
 use lib.Dec.{lit<}
 use Rattle.book.proofs.Places.{fits, quad-here}
 use borrow.Author.Needs.{needs}
 use Rattle.book.proofs.bytes.quad_at.Statement.{statement}
 use Rattle.book.proofs.bytes.quad_at.Tie as tie
-use Rattle.book.proofs.bytes.quad_at.Reads as reads
-use Rattle.book.proofs.bytes.quad_at.Lts as lts
-use Rattle.book.proofs.bytes.left_at.Reads as left-at-reads
-use Rattle.book.proofs.bytes.pair_at.Reads as pair-at-reads
-use Rattle.wire.proofs.number.four.Reads as four-reads
 
 add-if1 : tie.Need-add-if1
 add-if1 c = search needs

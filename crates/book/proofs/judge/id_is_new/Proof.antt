@@ -1,7 +1,8 @@
 -- `book::judge::id_is_new`. The invariant: the rule of the run is the rule of all.
 use mathlib.Core.Path.{_≡_}
 use borrow.Author.Needs.{needs}
-use Rattle.book.specs.Rules.{every, otherId}
+use Rattle.ground.specs.Choice.{every}
+use Rattle.book.specs.Rules.{otherId}
 use Rattle.book.specs.Places.{listed}
 use Rattle.book.proofs.Judging.{every-laws}
 use Rattle.book.proofs.judge.id_is_new.Statement.{statement}

@@ -1,8 +1,8 @@
 -- `fit::clauses::members_supported` meets its contract. The loop's invariant: the rule of the members still to come is the rule of all. Assumes nothing.
 use borrow.Author.Needs.{needs}
 use mathlib.Core.Path.{_≡_}
+use Rattle.ground.specs.Choice.{every}
 use Rattle.book.specs.Places.{listed, typeAt, typesBy}
-use Rattle.book.specs.Rules.{every}
 use Rattle.fit.specs.Fit.{memberSupported, membersSupported}
 use Rattle.fit.proofs.Asked.{members-laws}
 use Rattle.fit.proofs.clauses.members_supported.Statement.{statement}
