@@ -1,7 +1,7 @@
 -- Laws of what the cycle asks of a type or a member. Assumes nothing.
 use Prim.Native.Nat.{ℕ, _/_, _<_}
 use mathlib.Core.Path.{_≡_, sym, ap, _∙_}
-use mathlib.Core.Bool.{Bool, false, _||_, _&&_}
+use mathlib.Core.Bool.{Bool, true, false, not, _||_, _&&_}
 use mathlib.Core.List.{List}
 use lib.Dec.{eqb}
 use borrow.Author.Tests.{eq-eqb, ne-eqb}
@@ -20,8 +20,11 @@ use Rattle.book.specs.Places.{typeAt, typesBy, PlaceOf}
 use Rattle.values.specs.Header.{afterDheader}
 use Rattle.reader.specs.Value.{isSequence, primitiveElement, readAs}
 use Rattle.reader.specs.Member.{byLength, elementCount}
-use Rattle.reader.specs.Structure.{absorbs}
-use Rattle.reader.specs.Nested.{isMutable, contentsAt}
+use Rattle.lookup.specs.Dheader.{endingAt}
+use Rattle.lookup.specs.declared.dheader.Ending.{Ending}
+use Rattle.lookup.specs.declared.dheader.Ending.the-variants as ending
+use Rattle.reader.specs.Structure.{absorbs, begunBy}
+use Rattle.reader.specs.Nested.{isMutable, isStructure, contentsAt}
 
 pub sequence-is : (t : BookType) (k : ℕ) → k ≡ t .kind → eqb k 25 ≡ isSequence t
 unfolding isSequence
@@ -79,3 +82,28 @@ module _ (s : List ℕ) (set : Settings) (t : BookType) (c : Cursor) (k : ℕ) (
   pub contents-here : (k ≡ 1 → ⊥) → place.At c ≡ contentsAt s set t c
   unfolding contentsAt
   contents-here h = rw (← is, ne-eqb k 1 h)
+
+-- a structure, Mutable or not
+pub structure-not : (z : Bool) (t : BookType) (k : ℕ) → k ≡ t .kind → (k ≡ 22 → ⊥) → false ≡ isStructure z t
+unfolding isStructure
+structure-not true t k e f = rw (ne-eqb (t .kind) 22 (λ g. f (e ∙ g)))
+structure-not false t k e f = rw (ne-eqb (t .kind) 22 (λ g. f (e ∙ g)))
+
+module _ (t : BookType) (k : ℕ) (e : k ≡ t .kind) (f : k ≡ 22) (y : Bool) (g : y ≡ isMutable t) where
+  pub structure-final : not y ≡ isStructure false t
+  unfolding isStructure
+  structure-final = rw (eq-eqb (t .kind) 22 (sym e ∙ f), g)
+
+  pub structure-mutable : y ≡ isStructure true t
+  unfolding isStructure
+  structure-mutable = rw (eq-eqb (t .kind) 22 (sym e ∙ f)) g
+
+-- where the members of a Mutable structure begin
+module _ (s : List ℕ) (set : Settings) (c : Cursor) where
+  pub begun-first : set .version ≡ Xcdr1 → ending.At 0 c ≡ begunBy s set (set .version) c
+  unfolding begunBy
+  begun-first v = ap (λ (w : Version). begunBy s set w c) (sym v)
+
+  pub begun-second : set .version ≡ Xcdr2 → (g : Ending) → g ≡ endingAt s set c → g ≡ begunBy s set (set .version) c
+  unfolding begunBy
+  begun-second v g e = e ∙ ap (λ (w : Version). begunBy s set w c) (sym v)

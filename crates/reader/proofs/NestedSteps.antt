@@ -61,14 +61,6 @@ module _ (types : List BookType) (s : List ℕ) (set : Settings) (nest : Nest) (
     unfolding bodyBy
     is-mutable h z e = by false true no-enum (sym mutable ∙ h) ∙ ap (λ (x : Bool). asMutable types s set nest x (typeAt b at) c (room t n)) e
 
-    pub body-first : y ≡ true → k ≡ 22 → set .version ≡ Xcdr1 → (u : List ℕ) (r : Out) → Done (mstructBy types s set nest Xcdr1 (typeAt b at) c (room t n)) n t u r → Done body n t u r
-    unfolding asMutable
-    body-first h e v u r d = is-same (is-mutable h true (structure e) ∙ ap (λ (x : Version). mstructBy types s set nest x (typeAt b at) c (room t n)) v) d
-
-    pub body-second : y ≡ true → k ≡ 22 → set .version ≡ Xcdr2 → (u : List ℕ) (r : Out) → Done (mstructBy types s set nest Xcdr2 (typeAt b at) c (room t n)) n t u r → Done body n t u r
-    unfolding asMutable
-    body-second h e v u r d = is-same (is-mutable h true (structure e) ∙ ap (λ (x : Version). mstructBy types s set nest x (typeAt b at) c (room t n)) v) d
-
     pub body-munion : y ≡ true → (k ≡ 22 → ⊥) → (u : List ℕ) (r : Out) → Done (membersBy types s set nest true (typeAt b at .members) (unheardDheader s set c) (room t n)) n t u r → Done body n t u r
     unfolding asMutable
     body-munion h e u r d = is-same (is-mutable h false (no-structure e)) d
@@ -81,10 +73,6 @@ module _ (types : List BookType) (s : List ℕ) (set : Settings) (nest : Nest) (
       pub body-short : (x : Shortage) → g ≡ place.Short x → Done body n t t (Short x)
       unfolding bodyBy
       body-short x q = is-short (by false false no-enum (sym mutable ∙ h) ∙ after-short _ _ (sym is ∙ q)) (filled-none t n)
-
-      pub body-fstruct : (d : Cursor) → g ≡ place.At d → k ≡ 22 → (u : List ℕ) (r : Out) → Done (fmembersOf types s set nest (typeAt b at) (typeAt b at .members) d (room t n)) n t u r → Done body n t u r
-      unfolding asFinal
-      body-fstruct d q e u r w = is-same (is-final true (structure e) d q) w
 
       pub body-funion : (d : Cursor) → g ≡ place.At d → (k ≡ 22 → ⊥) → (u : List ℕ) (r : Out) → Done (membersBy types s set nest false (typeAt b at .members) d (room t n)) n t u r → Done body n t u r
       unfolding asFinal

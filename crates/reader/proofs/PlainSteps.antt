@@ -69,12 +69,17 @@ module _ (types : List BookType) (s : List ℕ) (set : Settings) (nest : Nest) (
   own e = read ∙ rw e
 
   pub taken-value : valueOf types s set nest ty id c r ≡ scalarOf s set k id c r
-  unfolding valueOf
+  unfolding valueOf unsupportedMember opens
   taken-value = go (eqb (typeNo types ty .kind) 19) refl
     where
       go : (x : Bool) → eqb (typeNo types ty .kind) 19 ≡ x → valueOf types s set nest ty id c r ≡ scalarOf s set k id c r
-      unfolding valueOf unsupportedMember opens
-      go true e = let f : typeNo types ty .kind ≡ 19 = eqb→eq (typeNo types ty .kind) 19 (rw e tt) in rw f (ap (λ (x : ℕ). scalarOf s set x id c r) (sym read))
+      go true e =
+          let f : typeNo types ty .kind ≡ 19 = eqb→eq (typeNo types ty .kind) 19 (rw e tt) in
+          let a : eqb (typeNo types ty .kind) 0 ≡ false = ap (λ (x : ℕ). eqb x 0) f in
+          let b : unsupportedMember (typeNo types ty .kind) ≡ false = ap unsupportedMember f in
+          let d : opens (typeNo types ty .kind) ≡ false = ap opens f in
+          let g : among (25 ∷ 26 ∷ []) (typeNo types ty .kind) ≡ false = ap (among (25 ∷ 26 ∷ [])) f in
+          rw (a, b, d, g) (ap (λ (x : ℕ). scalarOf s set x id c r) (sym read))
       go false e =
           let f : typeNo types ty .kind ≡ k = sym (own e) in
           let a : eqb (typeNo types ty .kind) 0 ≡ false = ap (λ (x : ℕ). eqb x 0) f ∙ some k taken in
@@ -85,13 +90,12 @@ module _ (types : List BookType) (s : List ℕ) (set : Settings) (nest : Nest) (
 
   -- and is no sequence
   pub taken-other : (v : Version) → byLength v types (typeNo types ty) ≡ false
-  unfolding byLength isSequence
+  unfolding byLength isSequence isTaken
   taken-other Xcdr1 = refl
   taken-other Xcdr2 = go (eqb (typeNo types ty .kind) 19) refl
     where
       go : (x : Bool) → eqb (typeNo types ty .kind) 19 ≡ x → both (isSequence (typeNo types ty)) (primitiveElement types (typeNo types ty)) ≡ false
-      unfolding isSequence isTaken
-      go true e = let f : typeNo types ty .kind ≡ 19 = eqb→eq (typeNo types ty .kind) 19 (rw e tt) in rw f
+      go true e = let f : eqb (typeNo types ty .kind) 25 ≡ false = ap (λ (x : ℕ). eqb x 25) (eqb→eq (typeNo types ty .kind) 19 (rw e tt)) in rw f
       go false e = let f : eqb (typeNo types ty .kind) 25 ≡ false = ap (λ (x : ℕ). eqb x 25) (sym (own e)) ∙ outside k taken (λ i. eqb i 25) tt in rw f
 
 -- what the quick way took is the member's
@@ -111,17 +115,17 @@ module _ (b index s : List ℕ) (set : Settings) (p : ℕ) (c : Cursor) (t : Lis
     value-is y nest = rw (← type, ← named) (taken-value (typesBy b index) s set nest ty i c (room t n) k y read-as)
 
     pub plain-taken : (o : Bool) → o ≡ optional (memberAt b p) → o ≡ false → (nest : Nest) → Quickly (fmemberOf (typesBy b index) s set nest (memberAt b p) c (room t n)) 1 n (c .origin) t u r
-    plain-taken o is no nest = quick-as _ _ 1 n (c .origin) t u r d (λ h. (member-is (takes h)))
+    unfolding fmemberOf fmemberBy
+    plain-taken o is never nest = quick-as _ _ 1 n (c .origin) t u r d (λ h. (member-is (takes h)))
       where
         member-is : isTaken k ≡ true → fmemberOf (typesBy b index) s set nest (memberAt b p) c (room t n) ≡ scalarOf s set k i c (room t n)
-        unfolding fmemberOf fmemberBy
-        member-is y = rw (sym is ∙ no) (value-is y nest)
+        member-is y = rw (sym is ∙ never) (value-is y nest)
 
     pub found-taken : (nest : Nest) (length : ℕ) → Quickly (foundOf (typesBy b index) s set nest (memberAt b p) length c (room t n)) 1 n (c .origin) t u r
+    unfolding foundOf foundBy
     found-taken nest length = quick-as _ _ 1 n (c .origin) t u r d (λ h. (found-is (takes h)))
       where
         found-is : isTaken k ≡ true → foundOf (typesBy b index) s set nest (memberAt b p) length c (room t n) ≡ scalarOf s set k i c (room t n)
-        unfolding foundOf foundBy
         found-is y = rw (← type, taken-other (typesBy b index) s set nest ty i c (room t n) k y read-as (set .version)) (rw type (value-is y nest))
 
 -- a row that was written has its place

@@ -44,8 +44,8 @@ module _ (types : List BookType) (s : List ℕ) (set : Settings) (nest : Nest) (
   abbrev pub FinalSofar : Outcome → ℕ → List ℕ → List ℕ → Run → Cursor → ℕ → Type 0
   FinalSofar whole n t u ms c m = Sofar whole (fmembersOf types s set nest (typeAt b at) (listed b ms) c (room u m)) n t u m
 
-  pub fstruct-start : (c : Cursor) (t : List ℕ) (n : ℕ) (ms : Run) → Started b at ms → FinalSofar (fmembersOf types s set nest (typeAt b at) (typeAt b at .members) c (room t n)) n t t ms c n
-  fstruct-start c t n ms e = sofar-start (ap (λ (l : List Member). fmembersOf types s set nest type l c (room t n)) (sym (e .is)))
+  pub fmembers-start : (c : Cursor) (t : List ℕ) (n : ℕ) (ms : Run) → Started b at ms → FinalSofar (fmembersOf types s set nest (typeAt b at) (typeAt b at .members) c (room t n)) n t t ms c n
+  fmembers-start c t n ms e = sofar-start (ap (λ (l : List Member). fmembersOf types s set nest type l c (room t n)) (sym (e .is)))
 
   module _ (whole : Outcome) (n : ℕ) (t u : List ℕ) (ms : Run) (c : Cursor) (m : ℕ) (inv : FinalSofar whole n t u ms c m) where
     module _ (l : 0 < ms .left) (v : List ℕ) (r : Out) (h : Done (fmemberOf types s set nest (memberAt b (ms .at)) c (room u m)) m u v r) where
@@ -75,15 +75,15 @@ module _ (types : List BookType) (s : List ℕ) (set : Settings) (nest : Nest) (
 
     -- the quick way took the member, or left it alone
     module _ (v : List ℕ) (x : ℕ) (q : (f : Nest) → Quickly (fmemberOf types s set f (memberAt b (ms .at)) c (room u m)) 1 m (c .origin) u v x) where
-      pub fstruct-quick : 0 < ms .left → 0 < x → (ns : Run) → After b ms ns → FinalSofar whole n t v ns (cursorAt x (c .origin)) (m + 1)
-      fstruct-quick l h ns a = member-turn l v (Read (cursorAt x (c .origin)) (m + 1)) (quick-done 1 x h (q nest)) (cursorAt x (c .origin)) (m + 1) ns refl a
+      pub fmembers-quick : 0 < ms .left → 0 < x → (ns : Run) → After b ms ns → FinalSofar whole n t v ns (cursorAt x (c .origin)) (m + 1)
+      fmembers-quick l h ns a = member-turn l v (Read (cursorAt x (c .origin)) (m + 1)) (quick-done 1 x h (q nest)) (cursorAt x (c .origin)) (m + 1) ns refl a
 
-      pub fstruct-next : 0 < x → length t < 2 ^ 64 → Fits w64 (m + 1)
-      fstruct-next h k = plain-next types s set (memberAt b (ms .at)) c u m v x q h (rw (← (inv .filled .long)) at k)
+      pub fmembers-next : 0 < x → length t < 2 ^ 64 → Fits w64 (m + 1)
+      fmembers-next h k = plain-next types s set (memberAt b (ms .at)) c u m v x q h (rw (← (inv .filled .long)) at k)
 
-    pub fstruct-end : ms .left ≤ 0 → Done whole n t u (Read c m)
+    pub fmembers-end : ms .left ≤ 0 → Done whole n t u (Read c m)
     unfolding fmembersOf
-    fstruct-end l = sofar-read inv (rw (run-none b ms l)) (filled-none u m)
+    fmembers-end l = sofar-read inv (rw (run-none b ms l)) (filled-none u m)
 
   -- where the quick way left the member alone, it is read as any other
   module _ (whole : Outcome) (n : ℕ) (t u : List ℕ) (ms : Run) (c : Cursor) (m : ℕ) (inv : FinalSofar whole n t u ms c m)
@@ -92,105 +92,14 @@ module _ (types : List BookType) (s : List ℕ) (set : Settings) (nest : Nest) (
     still : FinalSofar whole n t v ms c m
     still = rw (quick-none _ 1 m (c .origin) u v x none (q nest)) inv
 
-    pub fstruct-turn : (d : Cursor) (k : ℕ) (ns : Run) → r ≡ Read d k → After b ms ns → FinalSofar whole n t w ns d k
-    fstruct-turn = member-turn whole n t v ms c m still l w r h
+    pub fmembers-turn : (d : Cursor) (k : ℕ) (ns : Run) → r ≡ Read d k → After b ms ns → FinalSofar whole n t w ns d k
+    fmembers-turn = member-turn whole n t v ms c m still l w r h
 
-    pub fstruct-ended : (y : Shortage) (a : Bool) → r ≡ Short y → a ≡ absorbs (typeAt b at) (memberAt b (ms .at)) → a ≡ true → Done whole n t w (Read (y .at) m)
-    fstruct-ended = member-ended whole n t v ms c m still l w r h
+    pub fmembers-ended : (y : Shortage) (a : Bool) → r ≡ Short y → a ≡ absorbs (typeAt b at) (memberAt b (ms .at)) → a ≡ true → Done whole n t w (Read (y .at) m)
+    fmembers-ended = member-ended whole n t v ms c m still l w r h
 
-    pub fstruct-short : (y : Shortage) (a : Bool) → r ≡ Short y → a ≡ absorbs (typeAt b at) (memberAt b (ms .at)) → a ≡ false → Done whole n t w (Short y)
-    fstruct-short = member-short whole n t v ms c m still l w r h
+    pub fmembers-short : (y : Shortage) (a : Bool) → r ≡ Short y → a ≡ absorbs (typeAt b at) (memberAt b (ms .at)) → a ≡ false → Done whole n t w (Short y)
+    fmembers-short = member-short whole n t v ms c m still l w r h
 
-    pub fstruct-refused : (k : Refusal) → r ≡ Refused k → Done whole n t w (Refused k)
-    fstruct-refused = member-refused whole n t v ms c m still l w r h
-
-  -- members by their lookups, with those that are left
-  abbrev pub LookedSofar : Outcome → ℕ → List ℕ → List ℕ → Run → Cursor → ℕ → Type 0
-  LookedSofar whole n t u ms c m = Sofar whole (mmembersOf types s set nest (listed b ms) c (room u m)) n t u m
-
-  pub mmembers-start : (c : Cursor) (t : List ℕ) (n : ℕ) (ms : Run) → Started b at ms → LookedSofar (mmembersOf types s set nest (typeAt b at .members) c (room t n)) n t t ms c n
-  mmembers-start c t n ms e = sofar-start (ap (λ (l : List Member). mmembersOf types s set nest l c (room t n)) (sym (e .is)))
-
-  module _ (whole : Outcome) (n : ℕ) (t u : List ℕ) (ms : Run) (c : Cursor) (m : ℕ) (inv : LookedSofar whole n t u ms c m) where
-    module _ (l : 0 < ms .left) (v : List ℕ) (r : Out) (h : Done (mmemberOf types s set nest (memberAt b (ms .at)) c (room u m)) m u v r) where
-      next : mmembersOf types s set nest (listed b ms) c (room u m)
-          ≡ andThen (mmemberOf types s set nest (memberAt b (ms .at)) c (room u m)) (λ d used. mmembersOf types s set nest (later b ms) d (room u m - used))
-      unfolding mmembersOf
-      next = rw (run-more b ms l)
-
-      pub mmembers-turn : (d : Cursor) (k : ℕ) (ns : Run) → r ≡ Read d k → After b ms ns → LookedSofar whole n t v ns d k
-      mmembers-turn d k ns q a =
-          let w = was-read h q in
-          let z : room u m - length (w .new) ≡ room v k = room-used u v m (length (w .new)) (w .filled .long) ∙ ap (room v) (sym (w .count)) in
-          sofar-more inv
-          (next ∙ then-read _ (w .is)
-          ∙ ap (λ (x : ℕ). prepend (w .new) (mmembersOf types s set nest (later b ms) d x)) z
-          ∙ ap (λ (x : List Member). prepend (w .new) (mmembersOf types s set nest x d (room v k))) (sym (a .is)))
-          (w .count) (w .filled)
-
-      pub mmembers-short : (x : Shortage) → r ≡ Short x → Done whole n t v (Short x)
-      mmembers-short x q = let w = was-short h q in sofar-short inv (next ∙ then-short _ (w .is)) (w .filled)
-
-      pub mmembers-refused : (k : Refusal) → r ≡ Refused k → Done whole n t v (Refused k)
-      mmembers-refused k q = let w = was-refused h q in sofar-refused inv (next ∙ then-refused _ (w .is)) (w .filled)
-
-    pub mmembers-end : ms .left ≤ 0 → Done whole n t u (Read c m)
-    unfolding mmembersOf
-    mmembers-end l = sofar-read inv (rw (run-none b ms l)) (filled-none u m)
-
-  -- a Mutable structure of XCDR1
-  module _ (c : Cursor) (t : List ℕ) (n : ℕ) (u : List ℕ) (r : Out) (h : Done (mmembersOf types s set nest (typeAt b at .members) c (room t n)) n t u r) where
-    abbrev first : Outcome
-    first = mstructBy types s set nest Xcdr1 (typeAt b at) c (room t n)
-
-    is-first : first ≡ andThen (mmembersOf types s set nest (typeAt b at .members) c (room t n)) (λ d used. atSentinel types s set nest d)
-    unfolding mstructBy
-    is-first = refl
-
-    pub first-read : (d : Cursor) (m : ℕ) (g : Place) (e : Cursor) → r ≡ Read d m → g ≡ seekToSentinel s set d → g ≡ place.At e → Done first n t u (Read e m)
-    unfolding atSentinel prepend
-    first-read d m g e q i j =
-        let w = was-read h q in
-        is-read {rs = w .new} (is-first ∙ then-read _ (w .is) ∙ ap (prepend (w .new)) (after-at _ _ (sym i ∙ j)) ∙ ap (read e) (append-nil (w .new))) (w .count) (w .filled)
-
-    pub first-lost : (d : Cursor) (m : ℕ) (g : Place) (x : Shortage) → r ≡ Read d m → g ≡ seekToSentinel s set d → g ≡ place.Short x → Done first n t u (Short x)
-    unfolding atSentinel prepend
-    first-lost d m g x q i j =
-        let w = was-read h q in
-        is-short (is-first ∙ then-read _ (w .is) ∙ ap (prepend (w .new)) (after-short _ _ (sym i ∙ j))) (filled-kept (w .filled))
-
-    pub first-short : (x : Shortage) → r ≡ Short x → Done first n t u (Short x)
-    first-short x q = let w = was-short h q in is-short (is-first ∙ then-short _ (w .is)) (w .filled)
-
-    pub first-refused : (k : Refusal) → r ≡ Refused k → Done first n t u (Refused k)
-    first-refused k q = let w = was-refused h q in is-refused (is-first ∙ then-refused _ (w .is)) (w .filled)
-
-  -- a Mutable structure of XCDR2
-  module _ (c : Cursor) (t : List ℕ) (n : ℕ) (g : Ending) (is : g ≡ endingAt s set c) where
-    abbrev second : Outcome
-    second = mstructBy types s set nest Xcdr2 (typeAt b at) c (room t n)
-
-    by : (e : Ending) → g ≡ e → second ≡ onEnding types s set nest type (room t n) e
-    unfolding mstructBy
-    by e q = ap (onEnding types s set nest type (room t n)) (sym is ∙ q)
-
-    pub second-none : (x : Shortage) → g ≡ ending.Short x → Done second n t t (Short x)
-    unfolding onEnding
-    second-none x q = is-short (by (ending.Short x) q) (filled-none t n)
-
-    module _ (end : ℕ) (d : Cursor) (q : g ≡ ending.At end d) (u : List ℕ) (r : Out) (h : Done (mmembersOf types s set nest (typeAt b at .members) d (room t n)) n t u r) where
-      is-second : second ≡ andThen (mmembersOf types s set nest (typeAt b at .members) d (room t n)) (λ e used. read (cursorAt end (e .origin)) [])
-      unfolding onEnding
-      is-second = by (ending.At end d) q
-
-      pub second-read : (e f : Cursor) (m : ℕ) → r ≡ Read e m → f ≡ cursorAt end (e .origin) → Done second n t u (Read f m)
-      unfolding prepend
-      second-read e f m i j =
-          let w = was-read h i in
-          is-read {rs = w .new} (is-second ∙ then-read _ (w .is) ∙ ap (λ (y : Cursor). read y (w .new ++ [])) (sym j) ∙ ap (read f) (append-nil (w .new))) (w .count) (w .filled)
-
-      pub second-short : (x : Shortage) → r ≡ Short x → Done second n t u (Short x)
-      second-short x i = let w = was-short h i in is-short (is-second ∙ then-short _ (w .is)) (w .filled)
-
-      pub second-refused : (k : Refusal) → r ≡ Refused k → Done second n t u (Refused k)
-      second-refused k i = let w = was-refused h i in is-refused (is-second ∙ then-refused _ (w .is)) (w .filled)
+    pub fmembers-refused : (k : Refusal) → r ≡ Refused k → Done whole n t w (Refused k)
+    fmembers-refused = member-refused whole n t v ms c m still l w r h

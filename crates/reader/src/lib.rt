@@ -1,6 +1,7 @@
 // The reading of a value: the Rust's XTypesDeserializer. Its functions call each other in a cycle, and the depth falls at each value
 // that is opened.
 ghost use mathlib.Core.Path.{_≡_};
+ghost use mathlib.Core.Bool.{true, false};
 ghost use Rattle.book.specs.Places.{typeAt};
 ghost use Rattle.table.specs.Rows.{row, room};
 ghost use Rattle.table.specs.Outcome.{Done};

@@ -6,7 +6,9 @@ ghost use Rattle.reader.specs.Member.{byLength, elementCount};
 ghost use Rattle.reader.specs.Structure.{absorbs, begunBy, endedBy};
 ghost use Rattle.reader.specs.Nested.{isMutable, isStructure, contentsAt};
 ghost use mathlib.Core.Bool.{true, false};
-ghost use Rattle.table.specs.Outcome.{answer};
+ghost use Rattle.table.specs.Outcome.{Done};
+ghost use mathlib.Core.List.{List};
+ghost use Prim.Native.Nat.{ℕ};
 ghost use Rattle.lookup.specs.Ahead.{Led};
 use book::index::place;
 use book::types::bound;
@@ -137,7 +139,7 @@ pub fn ending(s: &[u8], set: Settings, c: Cursor) -> Ending
 
 // What ends a Mutable structure, after n rows: the marker in XCDR1; in XCDR2 it ends where its DHEADER says, wherever its members were.
 pub fn ended(s: &[u8], set: Settings, end: usize, c: Cursor, n: usize) -> Out
-    ensures { λ r. ⌜ r ≡ answer n (endedBy (now (s .entry)) set (set .version) end c) ⌝ }
+    ensures { λ r. ⌜ ((t : List ℕ) → Done (endedBy (now (s .entry)) set (set .version) end c) n t t r) ⌝ }
 {
     let version = set.version;
     match version {
@@ -152,7 +154,7 @@ pub fn ended(s: &[u8], set: Settings, end: usize, c: Cursor, n: usize) -> Out
 // The same from where the hint says, which is nearer.
 pub fn ended_from(s: &[u8], set: Settings, end: usize, c: Cursor, h: Hint, n: usize) -> Out
     requires { ⌜ Led (now s) set c (c .origin) h ⌝ }
-    ensures { λ r. ⌜ r ≡ answer n (endedBy (now (s .entry)) set (set .version) end c) ⌝ }
+    ensures { λ r. ⌜ ((t : List ℕ) → Done (endedBy (now (s .entry)) set (set .version) end c) n t t r) ⌝ }
 {
     if 0x3F02 < h.least {
         return ended(s, set, end, c, n);

@@ -4,11 +4,11 @@ use mathlib.Core.Path.{_≡_, refl, sym, ap, _∙_}
 use mathlib.Core.Bool.{Bool, true, false}
 use mathlib.Core.List.{List}
 use native.Mathlib.Omega.{arith}
-use native.Mathlib.Nat.{mod-lt, mod-self, zero-mod, mod-eq-of-lt, add-mod, add-mod-mod, mod-add-mod, add-sub-of-le, sub-zero, sub-eq-zero-of-le, le-of-lt}
+use native.Mathlib.Nat.{add-zero, mod-lt, mod-self, zero-mod, mod-eq-of-lt, add-mod, add-mod-mod, mod-add-mod, add-sub-of-le, sub-zero, sub-eq-zero-of-le, le-of-lt}
 use lib.ListN.{length}
 use lib.Dec.{leb, lit<}
 use borrow.Author.Tests.{le-leb, lt-leb, leb-true, leb-false}
-use Rattle.wire.specs.Place.{moved, shortAt, alignmentOf, gapOf, paddingOf, seekTo, alignTo, afterMove}
+use Rattle.wire.specs.Place.{cursorAt, moved, shortAt, alignmentOf, gapOf, paddingOf, seekTo, alignTo, afterMove}
 use Rattle.wire.specs.declared.settings.Version.{Version}
 use Rattle.wire.specs.declared.settings.Version.the-variants.{Xcdr1, Xcdr2}
 use Rattle.wire.specs.declared.cursor.Cursor.{Cursor}
@@ -136,6 +136,27 @@ unfolding alignTo
 align-inv s v c size d f =
     let k = seek-inv s c (paddingOf c (alignmentOf v size)) d f in
     (omega (arith, k .0, ap (λ (y : Cursor). y .pos) (k .1)), omega (arith, k .0, ap (λ (y : Cursor). y .pos) (k .1)), omega (arith, ap (λ (y : Cursor). y .origin) (k .1)))
+
+-- what is aligned is aligned again
+aligned-none : (c : Cursor) (a : ℕ) → 0 < a → paddingOf (moved c (paddingOf c a)) a ≡ 0
+aligned-none c a h = go (leb (c .origin) (c .pos)) refl
+  where
+    go : (x : Bool) → leb (c .origin) (c .pos) ≡ x → paddingOf (moved c (paddingOf c a)) a ≡ 0
+    go true e = padded-aligned c a h (leb-true _ _ e)
+    go false e =
+        let l : c .pos < c .origin = leb-false _ _ e in
+        let z : 0 ≡ paddingOf c a = padding-none c a l in
+        sym (padding-none (moved c (paddingOf c a)) a (omega arith))
+
+pub align-twice : (s : List ℕ) (v : Version) (c : Cursor) (size : ℕ) (d : Cursor) → 0 < size → alignTo s v c size ≡ At d → alignTo s v d size ≡ At d
+unfolding alignTo
+align-twice s v c size d h f =
+    let a : ℕ = alignmentOf v size in
+    let k = seek-inv s c (paddingOf c (alignmentOf v size)) d f in
+    let z : paddingOf (moved c (paddingOf c (alignmentOf v size))) (alignmentOf v size) ≡ 0 = aligned-none c (alignmentOf v size) (alignment-some v size (alignmentOf v size) h refl) in
+    let y : paddingOf d (alignmentOf v size) ≡ 0 = rw (k .1) at z in
+    let l : d .pos ≤ length s = omega (arith, k .0, ap (λ (x : Cursor). x .pos) (k .1)) in
+    rw y (sym (seek-at s d 0 (omega arith)) ∙ ap (λ (x : ℕ). At (cursorAt x (d .origin))) (add-zero (d .pos)))
 
 -- what follows a move, by how it went
 module _ {A : Type 0} (short : Shortage → A) (next : Cursor → A) {p : Place} where

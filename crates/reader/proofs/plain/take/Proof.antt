@@ -2,27 +2,45 @@ use Rattle.reader.proofs.PlainSteps.{plain-none, plain-taken}
 use borrow.Author.Needs.{needs}
 use Rattle.reader.proofs.plain.take.Statement.{statement}
 use Rattle.reader.proofs.plain.take.Tie as tie
+use Rattle.reader.proofs.plain.take.Reads as reads
+use Rattle.reader.proofs.plain.take.Lts as lts
+use Rattle.book.proofs.bytes.left_at.Reads as left-at-reads
+use Rattle.book.proofs.index.place.Reads as place-reads
+use Rattle.book.proofs.member.id.Reads as id-reads
+use Rattle.book.proofs.member.is_optional.Reads as is-optional-reads
+use Rattle.book.proofs.member.type_index.Reads as type-index-reads
+use Rattle.reader.proofs.types.read_as.Reads as read-as-reads
+use Rattle.values.proofs.quick.take.Reads as take-reads
 
-is-optional-requires : tie.Need-is-optional-requires
-is-optional-requires c κs = search needs
+left-at-requires : tie.Need-left-at-requires
+left-at-requires c κs = search needs
 
 returns : tie.Need-returns
 returns c = search (needs, plain-none, plain-taken)
 
+is-optional-requires : tie.Need-is-optional-requires
+is-optional-requires c κs = search needs
+
+returns-2 : tie.Need-returns-2
+returns-2 c = search (needs, plain-none, plain-taken)
+
 type-index-requires : tie.Need-type-index-requires
 type-index-requires c κs = search needs
+
+returns-3 : tie.Need-returns-3
+returns-3 c = search (needs, plain-none, plain-taken)
 
 place-requires : tie.Need-place-requires
 place-requires c κs = search needs
 
-kind-at-requires : tie.Need-kind-at-requires
-kind-at-requires c κs = search needs
+left-at-requires-2 : tie.Need-left-at-requires-2
+left-at-requires-2 c κs = search needs
 
-is-number-requires : tie.Need-is-number-requires
-is-number-requires c κs = search needs
+returns-4 : tie.Need-returns-4
+returns-4 c = search (needs, plain-none, plain-taken)
 
-returns-2 : tie.Need-returns-2
-returns-2 c = search (needs, plain-none, plain-taken)
+read-as-requires : tie.Need-read-as-requires
+read-as-requires c κs = search needs
 
 id-requires : tie.Need-id-requires
 id-requires c κs = search needs
@@ -36,22 +54,25 @@ take-requires c κs = search needs
 same-length : tie.Need-same-length
 same-length c = search needs
 
-returns-3 : tie.Need-returns-3
-returns-3 c = search (needs, plain-none, plain-taken)
+returns-5 : tie.Need-returns-5
+returns-5 c = search (needs, plain-none, plain-taken)
 
 pub take-spec : {M : Type 1} → statement M
 take-spec =
     tie.close
     (tie.spec
-    is-optional-requires
+    left-at-requires
     returns
-    type-index-requires
-    place-requires
-    kind-at-requires
-    is-number-requires
+    is-optional-requires
     returns-2
+    type-index-requires
+    returns-3
+    place-requires
+    left-at-requires-2
+    returns-4
+    read-as-requires
     id-requires
     cast-take
     take-requires
     same-length
-    returns-3)
+    returns-5)

@@ -1,0 +1,69 @@
+use Rattle.reader.proofs.PlainSteps.{found-none, found-taken}
+use borrow.Author.Needs.{needs}
+use Rattle.reader.proofs.plain.take_found.Statement.{statement}
+use Rattle.reader.proofs.plain.take_found.Tie as tie
+use Rattle.reader.proofs.plain.take_found.Reads as reads
+use Rattle.reader.proofs.plain.take_found.Lts as lts
+use Rattle.book.proofs.bytes.left_at.Reads as left-at-reads
+use Rattle.book.proofs.index.place.Reads as place-reads
+use Rattle.book.proofs.member.id.Reads as id-reads
+use Rattle.book.proofs.member.type_index.Reads as type-index-reads
+use Rattle.reader.proofs.types.read_as.Reads as read-as-reads
+use Rattle.values.proofs.quick.take_found.Reads as take-found-reads
+
+left-at-requires : tie.Need-left-at-requires
+left-at-requires c κs = search needs
+
+returns : tie.Need-returns
+returns c = search (needs, found-none, found-taken)
+
+type-index-requires : tie.Need-type-index-requires
+type-index-requires c κs = search needs
+
+returns-2 : tie.Need-returns-2
+returns-2 c = search (needs, found-none, found-taken)
+
+place-requires : tie.Need-place-requires
+place-requires c κs = search needs
+
+left-at-requires-2 : tie.Need-left-at-requires-2
+left-at-requires-2 c κs = search needs
+
+returns-3 : tie.Need-returns-3
+returns-3 c = search (needs, found-none, found-taken)
+
+read-as-requires : tie.Need-read-as-requires
+read-as-requires c κs = search needs
+
+id-requires : tie.Need-id-requires
+id-requires c κs = search needs
+
+cast-take-found : tie.Need-cast-take-found
+cast-take-found c = search needs
+
+take-found-requires : tie.Need-take-found-requires
+take-found-requires c κs = search needs
+
+same-length : tie.Need-same-length
+same-length c = search needs
+
+returns-4 : tie.Need-returns-4
+returns-4 c = search (needs, found-none, found-taken)
+
+pub take-found-spec : {M : Type 1} → statement M
+take-found-spec =
+    tie.close
+    (tie.spec
+    left-at-requires
+    returns
+    type-index-requires
+    returns-2
+    place-requires
+    left-at-requires-2
+    returns-3
+    read-as-requires
+    id-requires
+    cast-take-found
+    take-found-requires
+    same-length
+    returns-4)

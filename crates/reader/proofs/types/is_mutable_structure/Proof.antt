@@ -1,0 +1,24 @@
+use Rattle.reader.proofs.Asked.{structure-not, structure-mutable}
+use borrow.Author.Needs.{needs}
+use Rattle.reader.proofs.types.is_mutable_structure.Statement.{statement}
+use Rattle.reader.proofs.types.is_mutable_structure.Tie as tie
+use Rattle.reader.proofs.types.is_mutable_structure.Reads as reads
+use Rattle.reader.proofs.types.is_mutable_structure.Lts as lts
+use Rattle.reader.proofs.types.is_mutable.Reads as is-mutable-reads
+use Rattle.reader.proofs.types.kind_at.Reads as kind-at-reads
+
+kind-at-requires : tie.Need-kind-at-requires
+kind-at-requires c κs = search needs
+
+returns : tie.Need-returns
+returns c = search (needs, structure-not, structure-mutable)
+
+is-mutable-requires : tie.Need-is-mutable-requires
+is-mutable-requires c κs = search needs
+
+returns-2 : tie.Need-returns-2
+returns-2 c = search (needs, structure-not, structure-mutable)
+
+pub is-mutable-structure-spec : {M : Type 1} → statement M
+is-mutable-structure-spec =
+    tie.close (tie.spec kind-at-requires returns is-mutable-requires returns-2)
