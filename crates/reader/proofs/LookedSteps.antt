@@ -98,14 +98,14 @@ unfolding lookedUp
 looked-back s set Xcdr1 id back = first-back (xcdr1.seekToPid s set id back) back
 looked-back s set Xcdr2 id back = second-back (xcdr2.seekToPid s set id back) back
 
-module _ (types : List BookType) (s : List ℕ) (set : Settings) (nest : Nest) (back : Cursor) (aligned : alignTo s (set .version) back 4 ≡ place.At back) where
-  located-is : (id : ℕ) → locate s set id back ≡ lookedUp s set (set .version) id back
+module _ (types : List BookType) (s : List ℕ) (set : Settings) (nest : Nest) (back : Cursor) where
+  located-is : alignTo s (set .version) back 4 ≡ place.At back → (id : ℕ) → locate s set id back ≡ lookedUp s set (set .version) id back
   unfolding locate
-  located-is id = after-at _ _ aligned
+  located-is aligned id = after-at _ _ aligned
 
-  member-back : (m : Member) (k : ℕ) (e : Cursor) (rs : List Row) → mmemberOf types s set nest m back k ≡ read e rs → e ≡ back
+  member-back : alignTo s (set .version) back 4 ≡ place.At back → (m : Member) (k : ℕ) (e : Cursor) (rs : List Row) → mmemberOf types s set nest m back k ≡ read e rs → e ≡ back
   unfolding mmemberOf onLocated backTo came-back
-  member-back m k e rs q = go (lookedUp s set (set .version) (m .id) back) (looked-back s set (set .version) (m .id) back) (ap (onLocated types s set nest m k) (sym (located-is (m .id))) ∙ q)
+  member-back aligned m k e rs q = go (lookedUp s set (set .version) (m .id) back) (looked-back s set (set .version) (m .id) back) (ap (onLocated types s set nest m k) (sym (located-is aligned (m .id))) ∙ q)
     where
       after : (o : Outcome) (d : Cursor) → d ≡ back → backTo d o ≡ read e rs → e ≡ back
       after (read c ss) d f z = let y : d ≡ e = cc in sym y ∙ f
@@ -135,7 +135,7 @@ module _ (types : List BookType) (s : List ℕ) (set : Settings) (nest : Nest) (
     pub looked-start : (t : List ℕ) (n : ℕ) (ms : Run) (h : Hint) → Started b at ms → h .next ≡ back .pos → LookedSofar (then-end (mmembersOf types s set nest (typeAt b at .members) back (room t n))) n t t ms n h
     looked-start t n ms h e f = record { so = sofar-start (ap (λ (l : List Member). then-end (mmembersOf types s set nest l back (room t n))) (sym (e .is))); led = led-start s set back h f }
 
-    module _ (whole : Outcome) (n : ℕ) (t u : List ℕ) (ms : Run) (m : ℕ) (h : Hint) (inv : LookedSofar whole n t u ms m h) where
+    module _ (whole : Outcome) (n : ℕ) (t u : List ℕ) (ms : Run) (m : ℕ) (h : Hint) (inv : LookedSofar whole n t u ms m h) (aligned : alignTo s (set .version) back 4 ≡ place.At back) where
       abbrev wanted : Member
       wanted = memberAt b (ms .at)
 
@@ -147,7 +147,7 @@ module _ (types : List BookType) (s : List ℕ) (set : Settings) (nest : Nest) (
         member-turn : (e : Cursor) (k : ℕ) (ns : Run) (g : Hint) → r ≡ Read e k → After b ms ns → Led s set back (back .origin) g → LookedSofar whole n t v ns k g
         member-turn e k ns g q a y =
             let w = was-read d q in
-            let f : e ≡ back = member-back wanted (room u m) e (w .new) (w .is) in
+            let f : e ≡ back = member-back aligned wanted (room u m) e (w .new) (w .is) in
             let z : room u m - length (w .new) ≡ room v k = room-used u v m (length (w .new)) (w .filled .long) ∙ ap (room v) (sym (w .count)) in
             let o : mmembersOf types s set nest (listed b ms) back (room u m) ≡ prepend (w .new) (mmembersOf types s set nest (listed b ns) back (room v k)) =
             next ∙ then-read _ (w .is) ∙ ap (λ (x : Cursor). prepend (w .new) (mmembersOf types s set nest (later b ms) x (room u m - length (w .new)))) f
@@ -242,10 +242,10 @@ module _ (types : List BookType) (s : List ℕ) (set : Settings) (nest : Nest) (
     unfolding mmemberOf locate
     same-member back q al m = ap (λ (y : Place). onLocated types s set nest m (room t n) (afterMove located.Short y (λ d. lookedUp s set (set .version) (m .id) d))) (sym is ∙ q ∙ sym al)
 
-    pub mmembers-at : (back : Cursor) → g ≡ place.At back → alignTo s (set .version) back 4 ≡ place.At back → (u : List ℕ) (r : Out)
+    pub mmembers-aligned : (back : Cursor) → g ≡ place.At back → alignTo s (set .version) back 4 ≡ place.At back → (u : List ℕ) (r : Out)
         → Done (andThen (mmembersOf types s set nest (typeAt b at .members) back (room t n)) (λ e used. endedBy s set (set .version) end e)) n t u r → Done looked n t u r
     unfolding mmembersOf
-    mmembers-at back q al u r d =
+    mmembers-aligned back q al u r d =
         is-same
         (by _ more ∙ ap (λ (o : Outcome). andThen o (λ e used. endedBy s set (set .version) end e)) members-same
         ∙ ap (λ (x : List Member). andThen (mmembersOf types s set nest x back (room t n)) (λ e used. endedBy s set (set .version) end e)) (sym more ∙ started .is)) d
@@ -256,3 +256,14 @@ module _ (types : List BookType) (s : List ℕ) (set : Settings) (nest : Nest) (
 -- what is aligned is aligned again
 pub aligned-again : (s : List ℕ) (v : Version) (c back : Cursor) → alignTo s v c 4 ≡ place.At back → alignTo s v back 4 ≡ place.At back
 aligned-again s v c back e = align-twice s v c 4 back (lit< tt) e
+
+-- what is told of a cursor and of a hint that have names
+pub found-at : (s : List ℕ) (set : Settings) (i size : ℕ) (c d back : Cursor) → c ≡ d → locate s set i back ≡ located.Found size d back → locate s set i back ≡ located.Found size c back
+found-at s set i size c d back e f = f ∙ ap (λ (x : Cursor). located.Found size x back) (sym e)
+
+pub led-as : (s : List ℕ) (set : Settings) (back : Cursor) (o : ℕ) (g h : Hint) → g ≡ h → Led s set back o h → Led s set back o g
+led-as s set back o g h e l = rw e l
+
+-- each member leaves fewer
+pub fewer : (b : List ℕ) (ms ns : Run) → 0 < ms .left → After b ms ns → ns .left < ms .left
+fewer b ms ns l a = omega (arith, a .left)

@@ -1,10 +1,12 @@
 -- Laws of structures with their rows, one after the other, and of the values that they are. Assumes nothing.
-use Prim.Native.Nat.{ℕ, zero, suc, _+_, _-_, _*_, _≤_, _<_}
+use Prim.Native.Nat.{ℕ, zero, suc, _+_, _-_, _*_, _≤_, _<_, _^_}
 use mathlib.Core.Path.{_≡_, refl, sym, ap, _∙_}
 use mathlib.Core.Bool.{Bool, true, false, not}
 use mathlib.Core.List.{List, [], _∷_, append-nil}
 use native.Mathlib.Omega.{arith}
 use native.Mathlib.Nat.{sub-zero}
+use mir.Syntax.{w64}
+use mir.Val.{Fits}
 use lib.ListN.{length}
 use lib.Dec.{T, eqb, eqb→eq}
 use borrow.Author.Tests.{eq-eqb}
@@ -25,6 +27,7 @@ use Rattle.book.specs.Places.{memberAt, typeAt, typesBy, PlaceOf}
 use Rattle.lookup.specs.Dheader.{endingAt}
 use Rattle.lookup.specs.declared.dheader.Ending.{Ending}
 use Rattle.lookup.specs.declared.dheader.Ending.the-variants as ending
+use Rattle.table.specs.declared.rows.Row.{Row}
 use Rattle.table.specs.declared.out.Refusal.{Refusal}
 use Rattle.table.specs.declared.out.Refusal.the-variants.{NoRoom}
 use Rattle.table.specs.declared.out.Out.{Out}
@@ -246,3 +249,16 @@ module _ (b index s : List ℕ) (set : Settings) (D ty q : ℕ) (z : Bool) (at :
       pub found-structure : (length : ℕ) → Done (foundOf types s set (nestedAt types s set D) (memberAt b p) length c (room t n)) n t u r
       unfolding foundOf foundBy
       found-structure length = is-same (rw (← type, no-length (set .version), ← named) (value-is i c (room t n))) (nested-structure i c h)
+
+-- a row that has a name, and a table that is as long as it was
+pub put-as : (v : List ℕ) (m : ℕ) (x y : Row) (u : List ℕ) → u ≡ putRow v m x → x ≡ y → u ≡ putRow v m y
+put-as v m x y u e f = e ∙ ap (putRow v m) f
+
+pub still-long : {whole rest : Outcome} {n : ℕ} {a u : List ℕ} {m k : ℕ} → Sofar whole rest n a u m → length a < k → length u < k
+still-long inv h = rw (inv .filled .long) h
+
+pub next-fits : (i count : ℕ) → i < count → Fits w64 count → Fits w64 (i + 1)
+next-fits i count h k = omega (arith, k)
+
+pub nearer : (i count : ℕ) → i < count → count - (i + 1) < count - i
+nearer i count h = omega arith

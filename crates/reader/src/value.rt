@@ -152,11 +152,15 @@ pub fn opened(
     ensures { λ r. ⌜ Done (complexIn (now (book .entry)) (now (index .entry)) (now (s .entry)) set depth ty count c (room (now (t .entry)) n)) n (now (t .entry)) (now (t .exit)) r ⌝ }
 {
     let at = place(book, index, ty);
-    if (0 < depth) & is_final(book, at) {
-        return fstruct(book, index, s, set, t, at, ty, 0, count, c, n, depth - 1);
+    if is_final(book, at) {
+        if 0 < depth {
+            return fstruct(book, index, s, set, t, at, ty, 0, count, c, n, depth - 1);
+        }
     }
-    if (0 < depth) & is_mutable_structure(book, at) {
-        return mstruct(book, index, s, set, t, at, ty, 0, count, c, n, depth - 1);
+    if is_mutable_structure(book, at) {
+        if 0 < depth {
+            return mstruct(book, index, s, set, t, at, ty, 0, count, c, n, depth - 1);
+        }
     }
     let mut i: u64 = 0;
     let mut d = c;
