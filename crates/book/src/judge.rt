@@ -1,17 +1,21 @@
 // Whether a book is right: document 01's rules of a book, in reading order. Counts are tested before the loops that they bound.
 ghost use mathlib.Core.Path.{_≡_};
 ghost use mathlib.Core.Bool.{true, _&&_};
-ghost use mathlib.Core.List.{[]};
-ghost use Prim.Native.Nat.{ℕ, _<_, _≤_};
+ghost use mathlib.Core.List.{List, []};
+ghost use Prim.Native.Nat.{ℕ, _+_, _<_, _≤_};
 ghost use lib.ListN.{length};
+ghost use Rattle.book.specs.Types.{BookType};
 ghost use Rattle.book.specs.Places.{from, memberAt, typeAt, listed, earlier, Below, typesBy};
 ghost use Rattle.book.specs.Rules.{headOk, filled, recordLengthOk, codesOk, boundsOk, elementOk, countOk, ownOk};
 ghost use Rattle.book.specs.Rules.{every, otherId, linkOk, firstIdOk, firstKindOk, firstDefaultOk, firstLabelOk};
-ghost use Rattle.book.specs.Rules.{memberOk, membersOk, recordOk, recordsOk, bookOk};
+ghost use Rattle.book.specs.Rules.{flagsOk, constructOk, labelCountOk, memberOk, membersOk, recordOk, recordsOk, bookOk};
 use crate::bytes::byte_at;
+use crate::bytes::byte_there;
 use crate::bytes::left_at;
 use crate::bytes::pair_at;
+use crate::bytes::pair_there;
 use crate::bytes::quad_at;
+use crate::bytes::quad_there;
 use crate::bytes::skip;
 use crate::index::index;
 use crate::index::place;
@@ -110,38 +114,10 @@ fn count_ok(b: &[u8], at: usize) -> bool
         & (!((kind == ENUM) | (kind == UNION)) | (1 <= n))
 }
 
-// Whether the type is an extensibility and a kind that asks for nothing else. Most are, and keep every rule.
-fn is_plain(b: &[u8], at: usize) -> bool
-    ensures { λ r. ⌜ ((k : ℕ) → r ≡ true → true ≡ ownOk k (typeAt (now (b .entry)) at)) ⌝ }
-{
-    if 20 < types::kind(b, at) {
-        return false;
-    }
-    if 2 < types::extensibility(b, at) {
-        return false;
-    }
-    if types::base(b, at) != 0 {
-        return false;
-    }
-    if types::bound_flag(b, at) != 0 {
-        return false;
-    }
-    if types::bound(b, at) != 0 {
-        return false;
-    }
-    if types::element(b, at) != NONE {
-        return false;
-    }
-    member::member_count(b, at) == 0
-}
-
 // The own bytes of record k.
 fn own_ok(b: &[u8], at: usize, k: usize) -> bool
     ensures { λ r. ⌜ r ≡ ownOk k (typeAt (now (b .entry)) at) ⌝ }
 {
-    if is_plain(b, at) {
-        return true;
-    }
     codes_ok(b, at) & bound_ok(b, at) & element_ok(b, at, k) & count_ok(b, at)
 }
 
@@ -262,14 +238,107 @@ fn members_ok(b: &[u8], index: &[u32], at: usize, k: usize) -> bool
     true
 }
 
+// Whether the member at p, whose 9 bytes are there, keeps the rules of every member but that of its id. Its type, record k, is no enum.
+fn fields_ok(b: &[u8], k: usize, p: usize) -> bool
+    requires { ⌜ p + 9 ≤ length (now b) ⌝ }
+    ensures { λ r. ⌜ ((t : BookType) → (t .kind ≡ 21 → ⊥) → r ≡ true → true ≡ (linkOk k t (memberAt (now (b .entry)) p) && flagsOk (memberAt (now (b .entry)) p) && constructOk (memberAt (now (b .entry)) p) && labelCountOk (memberAt (now (b .entry)) p))) ⌝ }
+{
+    if k <= pair_there(b, p, 4) {
+        return false;
+    }
+    if 3 < byte_there(b, p, 6) {
+        return false;
+    }
+    if 2 < byte_there(b, p, 7) {
+        return false;
+    }
+    byte_there(b, p, 8) <= 16
+}
+
+// Whether the members fill their record and keep every rule, their ids rising from one to the next. Most do: one walk tells of them what
+// else takes two. Of enums and unions, and where ids do not rise, it tells nothing.
+fn members_rise(b: &[u8], at: usize, k: usize) -> bool
+    ensures { λ r. ⌜ ((types : List BookType) → r ≡ true → (true ≡ recordLengthOk (from (now (b .entry)) at)) × (true ≡ membersOk types k (typeAt (now (b .entry)) at) [] (typeAt (now (b .entry)) at .members))) ⌝ }
+{
+    let size = pair_at(b, at, 0);
+    if left_at(b, at) < size {
+        return false;
+    }
+    if size < 14 {
+        return false;
+    }
+    let kind = types::kind(b, at);
+    if (kind == ENUM) | (kind == UNION) {
+        return false;
+    }
+    let mut p = at + 14;
+    let mut left = member::member_count(b, at);
+    let mut room = size - 14;
+    let mut top = 0;
+    while 0 < left {
+        if room < 9 {
+            return false;
+        }
+        let id = quad_there(b, p, 0) as u64;
+        if id < top {
+            return false;
+        }
+        if !fields_ok(b, k, p) {
+            return false;
+        }
+        let step = 9 + 4 * byte_there(b, p, 8);
+        if room < step {
+            return false;
+        }
+        top = id + 1;
+        p += step;
+        room -= step;
+        left -= 1;
+    }
+    room == 0
+}
+
+// Whether the record is of 14 bytes: an extensibility and a kind that asks for nothing else. Most are, and keep every rule.
+fn is_plain(b: &[u8], at: usize) -> bool
+    ensures { λ r. ⌜ ((types : List BookType) (k : ℕ) → r ≡ true → true ≡ recordOk types k (from (now (b .entry)) at)) ⌝ }
+{
+    if left_at(b, at) < 14 {
+        return false;
+    }
+    if pair_there(b, at, 0) != 14 {
+        return false;
+    }
+    if 20 < byte_there(b, at, 2) {
+        return false;
+    }
+    if 2 < byte_there(b, at, 3) {
+        return false;
+    }
+    // base, flag and half of the bound
+    if quad_there(b, at, 4) != 0 {
+        return false;
+    }
+    // the other half, and the element
+    if quad_there(b, at, 8) != 65535 {
+        return false;
+    }
+    pair_there(b, at, 12) == 0
+}
+
 // Record k, at a place.
 fn record_ok(b: &[u8], index: &[u32], at: usize, k: usize) -> bool
     ensures { λ r. ⌜ r ≡ recordOk (typesBy (now (b .entry)) (now (index .entry))) k (from (now (b .entry)) at) ⌝ }
 {
-    if !record_length_ok(b, at) {
-        return false;
+    if is_plain(b, at) {
+        return true;
     }
     if !own_ok(b, at, k) {
+        return false;
+    }
+    if members_rise(b, at, k) {
+        return true;
+    }
+    if !record_length_ok(b, at) {
         return false;
     }
     members_ok(b, index, at, k)
