@@ -8,7 +8,7 @@ use native.Mathlib.Numerals.{add-one}
 use lib.Dec.{eqb, ltb, leb}
 use lib.ListN.{length, take, drop, length-drop}
 use borrow.Author.Tests.{not-true, not-false, lt-leb, le-leb, eq-eqb, ne-eqb, leb-true, eqb-true}
-use Rattle.ground.specs.Choice.{both}
+use Rattle.ground.specs.Choice.{pick, both}
 use Rattle.book.specs.declared.member.Run.{Run}
 use Rattle.book.specs.Types.{Member, BookType, bounded, noIndex, byte, pair, memberOf, pastMember, membersOf, typeOf, pastType, typeCount, typesOf}
 use Rattle.book.specs.Places.{from, memberAt, typeAt, Skipped, listed, later, earlier, Below, Started, After, typesBy, indexCount, indexed}
@@ -270,10 +270,6 @@ module _ (types : List BookType) (b : List ℕ) (at k : ℕ) where
   unfolding recordOk typeOk
   record-own o f y = rw (← f, not-true o y) (both-none (recordLengthOk (from b at)))
 
-  pub record-rises : (o : Bool) → o ≡ ownOk k (typeAt b at) → not o ≡ false → true ≡ recordLengthOk (from b at) → true ≡ allOk b types at k → true ≡ recordOk types k (from b at)
-  unfolding recordOk typeOk
-  record-rises o f y e m = rw (← e, ← f, not-false o y) m
-
   pub record-length : (l : Bool) → l ≡ recordLengthOk (from b at) → not l ≡ true → false ≡ recordOk types k (from b at)
   unfolding recordOk
   record-length l e z = rw (← e, not-true l z)
@@ -283,7 +279,7 @@ module _ (types : List BookType) (b : List ℕ) (at k : ℕ) where
   unfolding recordOk typeOk
   record-members l o m e z f y g = rw (← e, not-false l z, ← f, not-false o y) g
 
-pub ruleset record-laws = (record-own, record-rises, record-length, record-passed, record-members)
+pub ruleset record-laws = (record-own, record-length, record-passed, record-members)
 
 -- the records in order: k of n passed
 pub records-start : (b : List ℕ) (types : List BookType) (n : ℕ) → recordsOk types 0 (n - 0) (from b 7) ≡ recordsOk types 0 n (from b 7)
@@ -323,14 +319,34 @@ few-types b e =
     (both-second (leb 1 (typeCount b)) (leb (typeCount b) 64) (kept 2 (sizeOk b) (versionOk b ∷ typeCountOk b ∷ []) e))
 
 module _ (b : List ℕ) (h : Bool) (e : h ≡ headOk b) where
-  pub judge-head : not h ≡ true → false ≡ bookOk b
+  pub head-count : not h ≡ true → 0 ≡ pick (bookOk b) (typeCount b) 0
   unfolding bookOk
-  judge-head z = rw (← e, not-true h z)
+  head-count z = rw (← e, not-true h z)
 
-  pub judge-records : (t u : List ℕ) (n : ℕ) (r : Bool) → not h ≡ false → length t ≡ 64 → n ≡ indexCount b (length t) → u ≡ indexed b t
-      → r ≡ recordsOk (typesBy b (take (n - 0) u)) 0 (length (take (n - 0) u)) (from b 7) → r ≡ bookOk b
-  unfolding bookOk typesOf from
-  judge-records t u n r z l f g k =
-      let c : indexCount b (length t) ≡ typeCount b = omega (arith, few-types b (sym e ∙ not-false h z)) in
-      let m : n - 0 ≡ indexCount b (length t) = omega arith in
-      rw (← e, not-false h z) (rw (m, g, index-types b t, take-indexed b t, length-places, c) at k)
+  pub head-places : (t : List ℕ) → not h ≡ true → t ≡ pick (headOk b) (indexed b t) t
+  head-places t z = rw (← e, not-true h z)
+
+  module _ (t u : List ℕ) (n : ℕ) (z : not h ≡ false) (l : 64 ≤ length t) (f : n ≡ indexCount b (length t)) (g : u ≡ indexed b t) where
+    good : headOk b ≡ true
+    good = sym e ∙ not-false h z
+
+    counted : n ≡ typeCount b
+    counted = omega (arith, few-types b good)
+
+    judged : (r : Bool) → r ≡ recordsOk (typesBy b (take (n - 0) u)) 0 (length (take (n - 0) u)) (from b 7) → r ≡ bookOk b
+    unfolding bookOk typesOf from
+    judged r k =
+        let c : indexCount b (length t) ≡ typeCount b = sym f ∙ counted in
+        let m : n - 0 ≡ indexCount b (length t) = omega arith in
+        rw good (rw (m, g, index-types b t, take-indexed b t, length-places, c) at k)
+
+    pub records-places : u ≡ pick (headOk b) (indexed b t) t
+    records-places = rw good g
+
+    pub records-none : (r : Bool) → r ≡ recordsOk (typesBy b (take (n - 0) u)) 0 (length (take (n - 0) u)) (from b 7) → not r ≡ true → 0 ≡ pick (bookOk b) (typeCount b) 0
+    records-none r k y = rw (← judged r k, not-true r y)
+
+    pub records-count : (r : Bool) → r ≡ recordsOk (typesBy b (take (n - 0) u)) 0 (length (take (n - 0) u)) (from b 7) → not r ≡ false → n ≡ pick (bookOk b) (typeCount b) 0
+    records-count r k y = rw (← judged r k, not-false r y) counted
+
+pub ruleset judged-laws = (head-count, head-places, records-places, records-none, records-count)

@@ -1,17 +1,17 @@
 -- Laws of the judge's quick ways: a record that is a kind and an extensibility alone, and members whose ids rise. Assumes nothing.
 use Prim.Native.Nat.{ℕ, zero, suc, _+_, _-_, _*_, _<_, _≤_}
 use mathlib.Core.Path.{_≡_, refl, sym, ap, _∙_}
-use mathlib.Core.Bool.{Bool, true, false, not, _&&_, _||_}
+use mathlib.Core.Bool.{Bool, true, false, not, _&&_, or-true}
 use mathlib.Core.List.{List, [], _∷_, _++_}
 use native.Mathlib.Omega.{arith}
 use lib.Dec.{eqb, leb}
 use lib.ListN.{length, drop, length-drop}
 use lib.Seq.{drop-drop}
-use borrow.Author.Tests.{le-leb, lt-ltb, eqb-true, eqb-false, not-false}
+use borrow.Author.Tests.{le-leb, lt-ltb, leb-true, eqb-true, not-false}
 use Rattle.ground.specs.Choice.{both}
-use Rattle.book.specs.Types.{Member, BookType, byte, pair, quad, memberOf, pastMember, membersOf, typeOf}
+use Rattle.book.specs.Types.{Member, BookType, bounded, byte, pair, quad, memberOf, pastMember, membersOf, typeOf}
 use Rattle.book.specs.Places.{from, memberAt, typeAt, earlier, Below}
-use Rattle.book.specs.Rules.{memberSize, filled, recordLengthOk, ownOk, idOk, linkOk, flagsOk, constructOk, labelCountOk, firstOfUnion, memberOk, membersOk, typeOk, recordOk}
+use Rattle.book.specs.Rules.{memberSize, filled, recordLengthOk, codesOk, kindOk, extensibilityOk, baseOk, boundFlagOk, boundsOk, arrayBoundOk, boundOk, elementOk, countOk, memberCountOk, memberKindOk, someMemberOk, ownOk, idOk, linkOk, flagsOk, constructOk, labelCountOk, firstOfUnion, memberOk, membersOk, typeOk, recordOk}
 use Rattle.book.proofs.Kept.{apart}
 use Rattle.book.proofs.Places.{member-count-is, label-count-is, length-members}
 use Rattle.book.proofs.Judging.{plain-own, link-some, member-other, id-above, below-more, pastMembers, one-more, allOk}
@@ -44,6 +44,24 @@ module _ (s : List ℕ) (size kind extensibility a c m : ℕ) (e₀ : size ≡ p
   plain-record l d h h₀ h₂ h₃ h₄ h₈ types k =
       rw (plain-length (omega arith) h₀, ← plain-type k h₂ h₃ h₄ h₈, no-members s none)
 
+-- THE OWN BYTES OF A STRUCTURE
+structure-own : (t : BookType) (k : ℕ) → t .kind ≡ 22 → t .extensibility ≤ 2 → t .base ≡ 0 → t .boundFlag ≡ 0 → t .bound ≡ 0 → t .element ≡ 65535 → length (t .members) ≤ 64
+    → true ≡ ownOk k t
+unfolding ownOk codesOk kindOk extensibilityOk baseOk boundFlagOk boundsOk arrayBoundOk boundOk elementOk countOk memberCountOk memberKindOk someMemberOk bounded
+structure-own t k h₁ h₂ h₃ h₄ h₅ h₆ h₇ = rw (h₁, h₃, h₄, h₅, h₆, le-leb (t .extensibility) 2 h₂, le-leb (length (t .members)) 64 h₇, or-true)
+
+module _ (s : List ℕ) (kind extensibility a c m : ℕ) (e₂ : kind ≡ byte s 2) (e₃ : extensibility ≡ byte s 3) (e₄ : a ≡ quad s 4) (e₈ : c ≡ quad s 8) (e₁₂ : m ≡ pair s 12)
+    (h₂ : kind ≡ 22) (h₃ : extensibility ≤ 2) (h₄ : a ≡ 0) (h₈ : c ≡ 65535) where
+  pub structure-kind : typeOf s .kind ≡ 22
+  unfolding typeOf
+  structure-kind = sym e₂ ∙ h₂
+
+  pub structure-kept : leb m 64 ≡ true → (k : ℕ) → true ≡ ownOk k (typeOf s)
+  unfolding typeOf
+  structure-kept z k =
+      structure-own (typeOf s) k (sym e₂ ∙ h₂) (omega arith) (omega arith) (omega arith) (omega arith) (omega arith)
+      (omega (arith, leb-true m 64 z, member-count-is s (pair s 12) refl))
+
 -- A MEMBER'S FIELDS
 pub fields-kept : (s : List ℕ) (k link flags construct n : ℕ) → link ≡ pair s 4 → flags ≡ byte s 6 → construct ≡ byte s 7 → n ≡ byte s 8 → link < k → flags ≤ 3 → construct ≤ 2
     → leb n 16 ≡ true → (t : BookType) → (t .kind ≡ 21 → ⊥) → true ≡ (linkOk k t (memberOf s) && flagsOk (memberOf s) && constructOk (memberOf s) && labelCountOk (memberOf s))
@@ -54,10 +72,6 @@ fields-kept s k link flags construct n e₄ e₆ e₇ e₈ h₄ h₆ h₇ h₈ t
     let c : leb (byte s 7) 2 ≡ true = le-leb (byte s 7) 2 (omega arith) in
     let g : leb (length (memberOf s .labels)) 16 ≡ true = rw (← label-count-is s n e₈) h₈ in
     rw (l, f, c, g)
-
-neither : (a b : Bool) → (a || b) ≡ false → (a ≡ false) × (b ≡ false)
-neither true b e = absurd (apart (sym e))
-neither false b e = (refl, e)
 
 -- THE WALK: n - left members are passed, whose ids are below top; the others, from p on, are to fill `room`
 pub record Rising (b : List ℕ) (at k n all p left room top : ℕ) : Type 0 where
@@ -84,13 +98,15 @@ module _ (b : List ℕ) (at k n size l : ℕ) (e : size ≡ pair (from b at) 0) 
         inside = omega (arith, length-drop at b);
       }
 
-  pub rise-end : (p left room top : ℕ) → Rising b at k n (size - 14) p left room top → left ≤ 0 → eqb room 0 ≡ true
-      → (types : List BookType) → (true ≡ recordLengthOk (from b at)) × (true ≡ membersOk types k (typeAt b at) [] (typeAt b at .members))
-  unfolding recordLengthOk filled membersOk membersOf
-  rise-end p left room top x o z types =
+  pub rise-end : (p left room top : ℕ) → Rising b at k n (size - 14) p left room top → left ≤ 0 → true ≡ ownOk k (typeAt b at) → eqb room 0 ≡ true
+      → (types : List BookType) → true ≡ recordOk types k (from b at)
+  unfolding recordOk typeOk recordLengthOk filled membersOk membersOf
+  rise-end p left room top x o own z types =
       let j : left ≡ 0 = omega arith in
       let f : filled (typeAt b at .members) (size - 14) ≡ true = sym (rw j at (x .fill)) ∙ z in
-      (rw (← e, f, le-leb size (length (from b at)) (omega arith), le-leb 14 size small), rw j at (x .still types))
+      let l : recordLengthOk (from b at) ≡ true = rw (← e, f, le-leb size (length (from b at)) (omega arith), le-leb 14 size small) in
+      let m : true ≡ allOk b types at k = rw j at (x .still types) in
+      rw (l, ← own) m
 
 module _ (b : List ℕ) (at k n all p left room top : ℕ) (x : Rising b at k n all p left room top) (some : 0 < left) where
   -- one is left: it, and those after it
@@ -107,7 +123,7 @@ module _ (b : List ℕ) (at k n all p left room top : ℕ) (x : Rising b at k n 
   unfolding earlier
   with-it = rw passed (one-more (n - left) (drop 14 (from b at)) ∙ (rw (x .stands)))
 
-  module _ (kind id : ℕ) (r : Bool) (e : kind ≡ typeAt b at .kind) (w : (eqb kind 21 || eqb kind 23) ≡ false) (f : id ≡ quad (from b p) 0) (h : top ≤ id) (y : not r ≡ false)
+  module _ (id : ℕ) (r : Bool) (q : typeAt b at .kind ≡ 22) (f : id ≡ quad (from b p) 0) (h : top ≤ id) (y : not r ≡ false)
       (ok : (t : BookType) → (t .kind ≡ 21 → ⊥) → r ≡ true → true ≡ (linkOk k t (memberAt b p) && flagsOk (memberAt b p) && constructOk (memberAt b p) && labelCountOk (memberAt b p))) where
     id-is : id ≡ memberAt b p .id
     unfolding memberOf
@@ -117,8 +133,8 @@ module _ (b : List ℕ) (at k n all p left room top : ℕ) (x : Rising b at k n 
     unfolding idOk firstOfUnion
     this types =
         let i : idOk (earlier b at (n - left)) (memberAt b p) ≡ true = sym (id-above top (memberAt b p .id) (earlier b at (n - left)) (x .ids) (omega (arith, id-is))) in
-        let u : eqb (typeAt b at .kind) 23 ≡ false = rw (← e) (neither (eqb kind 21) (eqb kind 23) w .1) in
-        let kept = ok (typeAt b at) (λ g. eqb-false kind 21 (neither (eqb kind 21) (eqb kind 23) w .0) (e ∙ g)) (not-false r y) in
+        let u : eqb (typeAt b at .kind) 23 ≡ false = rw q in
+        let kept = ok (typeAt b at) (λ g. omega arith) (not-false r y) in
         sym (member-other types k (typeAt b at) (earlier b at (n - left)) (memberAt b p) (rw u)) ∙ (rw (i, ← kept))
 
     pub rise-turn : (c : ℕ) → c ≡ byte (from b p) 8 → 9 + 4 * c ≤ room → Rising b at k n all (p + (9 + 4 * c)) (left - 1) (room - (9 + 4 * c)) (id + 1)

@@ -4,8 +4,9 @@ ghost use mathlib.Core.Bool.{true, _&&_};
 ghost use mathlib.Core.List.{List, []};
 ghost use Prim.Native.Nat.{ℕ, _+_, _<_, _≤_};
 ghost use lib.ListN.{length};
-ghost use Rattle.book.specs.Types.{BookType};
-ghost use Rattle.book.specs.Places.{from, memberAt, typeAt, listed, earlier, Below, typesBy};
+ghost use Rattle.ground.specs.Choice.{pick};
+ghost use Rattle.book.specs.Types.{BookType, typeCount};
+ghost use Rattle.book.specs.Places.{from, memberAt, typeAt, listed, earlier, Below, indexed, typesBy};
 ghost use Rattle.book.specs.Rules.{headOk, filled, recordLengthOk, codesOk, boundsOk, elementOk, countOk, ownOk};
 ghost use Rattle.book.specs.Rules.{every, otherId, linkOk, firstIdOk, firstKindOk, firstDefaultOk, firstLabelOk};
 ghost use Rattle.book.specs.Rules.{flagsOk, constructOk, labelCountOk, memberOk, membersOk, recordOk, recordsOk, bookOk};
@@ -24,6 +25,8 @@ use crate::member::Run;
 use crate::types;
 
 const ENUM: usize = 21;
+
+const STRUCTURE: usize = 22;
 
 const UNION: usize = 23;
 
@@ -255,10 +258,31 @@ fn fields_ok(b: &[u8], k: usize, p: usize) -> bool
     byte_there(b, p, 8) <= 16
 }
 
-// Whether the members fill their record and keep every rule, their ids rising from one to the next. Most do: one walk tells of them what
-// else takes two. Of enums and unions, and where ids do not rise, it tells nothing.
-fn members_rise(b: &[u8], at: usize, k: usize) -> bool
-    ensures { λ r. ⌜ ((types : List BookType) → r ≡ true → (true ≡ recordLengthOk (from (now (b .entry)) at)) × (true ≡ membersOk types k (typeAt (now (b .entry)) at) [] (typeAt (now (b .entry)) at .members))) ⌝ }
+// Whether the own bytes, which are there, are those of a structure: an extensibility and at most 64 members, and nothing else.
+fn own_plain(b: &[u8], at: usize) -> bool
+    requires { ⌜ at + 14 ≤ length (now b) ⌝ }
+    ensures { λ r. ⌜ (r ≡ true → typeAt (now (b .entry)) at .kind ≡ 22) × ((k : ℕ) → r ≡ true → true ≡ ownOk k (typeAt (now (b .entry)) at)) ⌝ }
+{
+    if byte_there(b, at, 2) != STRUCTURE {
+        return false;
+    }
+    if 2 < byte_there(b, at, 3) {
+        return false;
+    }
+    // base, flag and half of the bound; the other half, and the element
+    if quad_there(b, at, 4) != 0 {
+        return false;
+    }
+    if quad_there(b, at, 8) != 65535 {
+        return false;
+    }
+    pair_there(b, at, 12) <= 64
+}
+
+// Whether the record is a structure's that keeps every rule, its ids rising from member to member. Most structures' are: one walk tells of
+// them what else takes two. Of other records it tells nothing.
+fn is_structure(b: &[u8], at: usize, k: usize) -> bool
+    ensures { λ r. ⌜ ((types : List BookType) → r ≡ true → true ≡ recordOk types k (from (now (b .entry)) at)) ⌝ }
 {
     let size = pair_at(b, at, 0);
     if left_at(b, at) < size {
@@ -267,8 +291,7 @@ fn members_rise(b: &[u8], at: usize, k: usize) -> bool
     if size < 14 {
         return false;
     }
-    let kind = types::kind(b, at);
-    if (kind == ENUM) | (kind == UNION) {
+    if !own_plain(b, at) {
         return false;
     }
     let mut p = at + 14;
@@ -314,11 +337,10 @@ fn is_plain(b: &[u8], at: usize) -> bool
     if 2 < byte_there(b, at, 3) {
         return false;
     }
-    // base, flag and half of the bound
+    // base, flag and half of the bound; the other half, and the element
     if quad_there(b, at, 4) != 0 {
         return false;
     }
-    // the other half, and the element
     if quad_there(b, at, 8) != 65535 {
         return false;
     }
@@ -332,11 +354,11 @@ fn record_ok(b: &[u8], index: &[u32], at: usize, k: usize) -> bool
     if is_plain(b, at) {
         return true;
     }
+    if is_structure(b, at, k) {
+        return true;
+    }
     if !own_ok(b, at, k) {
         return false;
-    }
-    if members_rise(b, at, k) {
-        return true;
     }
     if !record_length_ok(b, at) {
         return false;
@@ -360,13 +382,25 @@ fn records_ok(b: &[u8], index: &[u32]) -> bool
     left_at(b, p) == 0
 }
 
+// How many types a right book has, and 0 of any other. Leaves the places of the types, which it judges by, as `index` does; where the
+// head is not right it writes none.
+pub fn judge_into(b: &[u8], lent: &mut [u32]) -> usize
+    requires { ⌜ 64 ≤ length (now lent) ⌝ }
+    ensures { λ r. ⌜ (r ≡ pick (bookOk (now (b .entry))) (typeCount (now (b .entry))) 0) × (now (lent .exit) ≡ pick (headOk (now (b .entry))) (indexed (now (b .entry)) (now (lent .entry))) (now (lent .entry))) ⌝ }
+{
+    if !head_ok(b) {
+        return 0;
+    }
+    let n = index(b, lent);
+    if !records_ok(b, &lent[0..n]) {
+        return 0;
+    }
+    n
+}
+
 pub fn judge(b: &[u8]) -> bool
     ensures { λ r. ⌜ r ≡ bookOk (now (b .entry)) ⌝ }
 {
-    if !head_ok(b) {
-        return false;
-    }
     let mut places = [0u32; 64];
-    let n = index(b, &mut places);
-    records_ok(b, &places[0..n])
+    0 < judge_into(b, &mut places)
 }

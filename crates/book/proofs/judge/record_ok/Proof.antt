@@ -1,5 +1,5 @@
 -- `book::judge::record_ok`: the quick ways where they tell; else the own bytes, the length, the members.
-use Rattle.book.proofs.Judging.{record-laws, record-rises, record-passed}
+use Rattle.book.proofs.Judging.{record-laws, record-passed}
 use borrow.Author.Needs.{needs}
 use Rattle.book.proofs.judge.record_ok.Statement.{statement}
 use Rattle.book.proofs.judge.record_ok.Tie as tie
@@ -10,18 +10,17 @@ is-plain-requires c κs = search needs
 returns : tie.Need-returns
 returns c = c .before .is-plain .ensures _ _ (c .if1 .taken)
 
+is-structure-requires : tie.Need-is-structure-requires
+is-structure-requires c κs = search needs
+
+returns-2 : tie.Need-returns-2
+returns-2 c = c .before .is-structure .ensures _ (c .if2 .taken)
+
 own-ok-requires : tie.Need-own-ok-requires
 own-ok-requires c κs = search needs
 
-returns-2 : tie.Need-returns-2
-returns-2 c = search (needs, record-laws)
-
-members-rise-requires : tie.Need-members-rise-requires
-members-rise-requires c κs = search needs
-
 returns-3 : tie.Need-returns-3
-returns-3 c = let m = c .before .members-rise .ensures _ (c .if3 .taken) in
-    record-rises _ _ _ _ _ (c .before .before .before .own-ok .ensures) (c .before .before .if2 .left) (m .0) (m .1)
+returns-3 c = search (needs, record-laws)
 
 record-length-ok-requires : tie.Need-record-length-ok-requires
 record-length-ok-requires c κs = search needs
@@ -41,9 +40,9 @@ record-ok-spec =
     (tie.spec
     is-plain-requires
     returns
-    own-ok-requires
+    is-structure-requires
     returns-2
-    members-rise-requires
+    own-ok-requires
     returns-3
     record-length-ok-requires
     returns-4

@@ -1,19 +1,20 @@
--- `book::judge::members_rise`. The invariant: what is passed keeps the rules, and the rest is to fill the room (`Rising`). A "no" says nothing.
+-- `book::judge::is_structure`. The invariant: what is passed keeps the rules, and the rest is to fill the room (`Rising`). A "no" says nothing.
 use Prim.Native.Nat.{_-_}
 use native.Mathlib.Omega.{arith}
 use lib.Dec.{lit<}
 use borrow.Author.Needs.{needs}
+use borrow.Author.Tests.{not-false}
 use Rattle.book.proofs.Kept.{apart}
 use Rattle.book.proofs.Places.{fits}
 use Rattle.book.proofs.Rising.{Rising, rise-start, rise-turn, rise-end}
-use Rattle.book.proofs.judge.members_rise.Statement.{statement}
-use Rattle.book.proofs.judge.members_rise.Tie as tie
+use Rattle.book.proofs.judge.is_structure.Statement.{statement}
+use Rattle.book.proofs.judge.is_structure.Tie as tie
 
 abbrev Inv-loop : tie.InvT-loop
-Inv-loop b at k size kind p₀ left₀ room₀ top₀ p left room top = Rising b at k left₀ (size - 14) p left room top
+Inv-loop b at k size p₀ left₀ room₀ top₀ p left room top = Rising b at k left₀ (size - 14) p left room top
 
 abbrev μ-loop : tie.MeasureT-loop
-μ-loop b at k size kind p₀ left₀ room₀ top₀ p left room top = left
+μ-loop b at k size p₀ left₀ room₀ top₀ p left room top = left
 
 pair-at-requires : tie.Need-pair-at-requires Inv-loop μ-loop
 pair-at-requires c κs = search needs
@@ -27,8 +28,8 @@ returns c = λ types e. absurd (apart e)
 returns-2 : tie.Need-returns-2 Inv-loop μ-loop
 returns-2 c = λ types e. absurd (apart e)
 
-kind-requires : tie.Need-kind-requires Inv-loop μ-loop
-kind-requires c κs = search needs
+own-plain-requires : tie.Need-own-plain-requires Inv-loop μ-loop
+own-plain-requires c κs = omega (arith, fits _ _ 0 _ (c .before .before .left-at .ensures) 14 (lit< tt) (omega arith))
 
 returns-3 : tie.Need-returns-3 Inv-loop μ-loop
 returns-3 c = λ types e. absurd (apart e)
@@ -86,15 +87,17 @@ loop-less c = search needs
 
 loop-again : tie.Need-loop-again Inv-loop μ-loop
 loop-again c = let l = c .before .before .before .before .before .before .before .before in
-    rise-turn _ _ _ _ _ _ _ _ _ (l .loop .inv) (c .before .before .before .before .before .before .before .loop-test .taken) _ _ (c .before .before .before .fields-ok .result) (l .before .before .before .kind .ensures .0) (l .before .before .if3 .left)
-    (c .before .before .before .before .before .quad-there .ensures) (c .before .before .before .before .if5 .left) (c .before .before .if6 .left) (c .before .before .before .fields-ok .ensures) _ (c .before .byte-there .ensures .0) (c .if7 .left)
+    let o = l .before .before .before .own-plain in
+    rise-turn _ _ _ _ _ _ _ _ _ (l .loop .inv) (c .before .before .before .before .before .before .before .loop-test .taken) _ _ (o .ensures .0 (not-false (o .result) (l .before .before .if3 .left))) (c .before .before .before .before .before .quad-there .ensures)
+    (c .before .before .before .before .if5 .left) (c .before .before .if6 .left) (c .before .before .before .fields-ok .ensures) _ (c .before .byte-there .ensures .0) (c .if7 .left)
 
 returns-8 : tie.Need-returns-8 Inv-loop μ-loop
-returns-8 c = λ types z. rise-end _ _ _ _ _ _ (c .before .before .before .before .before .before .before .before .pair-at .ensures .0) (c .before .before .before .before .before .before .before .left-at .ensures) (c .before .before .before .before .before .before .if1 .left) (c .before .before .before .before .before .if2 .left) _ _ _ _ (c .before .loop .inv)
-    (c .loop-test .left) z types
+returns-8 c = let o = c .before .before .before .before .own-plain in
+    λ types z. rise-end _ _ _ _ _ _ (c .before .before .before .before .before .before .before .before .pair-at .ensures .0) (c .before .before .before .before .before .before .before .left-at .ensures) (c .before .before .before .before .before .before .if1 .left) (c .before .before .before .before .before .if2 .left) _ _ _ _ (c .before .loop .inv)
+    (c .loop-test .left) (o .ensures .1 _ (not-false (o .result) (c .before .before .before .if3 .left))) z types
 
-pub members-rise-spec : {M : Type 1} → statement M
-members-rise-spec =
+pub is-structure-spec : {M : Type 1} → statement M
+is-structure-spec =
     tie.close
     (tie.spec
     Inv-loop
@@ -103,7 +106,7 @@ members-rise-spec =
     left-at-requires
     returns
     returns-2
-    kind-requires
+    own-plain-requires
     returns-3
     add-p
     member-count-requires
