@@ -8,8 +8,8 @@ use native.Mathlib.Nat.{add-zero, le-of-lt}
 use lib.Dec.{eqb, ltb, leb}
 use lib.ListN.{length, getD, take, drop}
 use lib.Seq.{length-take-le, getD-take}
-use borrow.Author.Tests.{leb-true, ltb-true, eqb-true, eq-eqb, ne-eqb, not-true, eqb-false}
-use Rattle.ground.specs.Choice.{both, every, _‥_, within}
+use borrow.Author.Tests.{leb-true, ltb-true, lt-ltb, eqb-true, eq-eqb, ne-eqb, not-true, eqb-false}
+use Rattle.ground.specs.Choice.{pick, both, every, _‥_, within}
 use Rattle.ground.proofs.Tests.{both-first, both-second, one-first, one-second}
 use Rattle.book.specs.Types.{Member, BookType, default, bounded, noIndex, quad, typeOf, pastType, typeCount, typesFrom, typesOf, typeNo}
 use Rattle.book.specs.Places.{from, typesBy, indexCount, indexed}
@@ -20,7 +20,7 @@ use Rattle.book.proofs.Indexing.{index-types}
 use Rattle.book.proofs.Judging.{few-types}
 
 -- THE HEAD
-head-good : (b : List ℕ) → bookOk b ≡ true → headOk b ≡ true
+pub head-good : (b : List ℕ) → bookOk b ≡ true → headOk b ≡ true
 unfolding bookOk
 head-good b e = both-first (headOk b) (recordsOk (typesOf b) 0 (typeCount b) (drop 7 b)) e
 
@@ -34,6 +34,14 @@ unfolding headOk typeCountOk
 count-good b e =
     let c : within (1 ‥ 64) (typeCount b) ≡ true = kept 2 (sizeOk b) (versionOk b ∷ typeCountOk b ∷ []) (head-good b e) in
     (leb-true 1 (typeCount b) (both-first (leb 1 (typeCount b)) (leb (typeCount b) 64) c), few-types b (head-good b e))
+
+-- what `judge_into` counts tells whether the book is right
+pub judge-count : (b : List ℕ) (n : ℕ) → n ≡ pick (bookOk b) (typeCount b) 0 → ltb 0 n ≡ bookOk b
+judge-count b n e = rw e (by-book (bookOk b) refl)
+  where
+    by-book : (t : Bool) → bookOk b ≡ t → ltb 0 (pick t (typeCount b) 0) ≡ t
+    by-book true h = lt-ltb 0 (typeCount b) (omega (arith, count-good b h .0))
+    by-book false h = refl
 
 length-from : (n : ℕ) (s : List ℕ) → length (typesFrom n s) ≡ n
 unfolding typesFrom

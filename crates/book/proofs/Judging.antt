@@ -8,8 +8,8 @@ use native.Mathlib.Numerals.{add-one}
 use lib.Dec.{eqb, ltb, leb}
 use lib.ListN.{length, take, drop, length-drop}
 use borrow.Author.Tests.{not-true, not-false, lt-leb, le-leb, eq-eqb, ne-eqb, leb-true, eqb-true}
-use Rattle.ground.specs.Choice.{both, every}
-use Rattle.ground.proofs.Tests.{apart, both-first, both-second}
+use Rattle.ground.specs.Choice.{pick, both, every}
+use Rattle.ground.proofs.Tests.{both-first, both-second, both-false}
 use Rattle.book.specs.declared.member.Run.{Run}
 use Rattle.book.specs.Types.{Member, BookType, bounded, noIndex, byte, pair, memberOf, pastMember, membersOf, typeOf, pastType, typeCount, typesOf}
 use Rattle.book.specs.Places.{from, memberAt, typeAt, Skipped, listed, later, earlier, Below, Started, After, typesBy, indexCount, indexed}
@@ -75,9 +75,6 @@ sizes-record s e =
     omega (arith, sizes-filled (typeOf s .members) (n - 14) (both-second (leb 14 n) fill more))
 
 -- a type that has nothing but a kind and an extensibility keeps every rule of a record's own bytes
-pub plain-no : (t : BookType) (k : ℕ) → false ≡ true → true ≡ ownOk k t
-plain-no t k e = absurd (apart e)
-
 pub plain-own : (t : BookType) (k kind extensibility base flag bound element n : ℕ)
     → kind ≡ t .kind → extensibility ≡ t .extensibility → base ≡ t .base → flag ≡ t .boundFlag → bound ≡ t .bound → element ≡ t .element → n ≡ length (t .members)
     → kind ≤ 20 → extensibility ≤ 2 → base ≡ 0 → flag ≡ 0 → bound ≡ 0 → element ≡ 65535 → eqb n 0 ≡ true → true ≡ ownOk k t
@@ -88,8 +85,6 @@ plain-own t k kind extensibility base flag bound element n e₁ e₂ e₃ e₄ e
     rw
     (← e₁, ← e₂, ← e₃, ← e₄, ← e₅, ← e₆, ← e₇)
     (rw (h₃, h₄, h₅, h₆, z, le-leb kind 27 (omega arith), le-leb extensibility 2 h₂, f 21 (omega arith), f 23 (omega arith), f 25 (omega arith), f 26 (omega arith)))
-
-pub ruleset plain-laws = (plain-no, plain-own)
 
 -- a rule that picks by a test
 pub element-some : (t : BookType) (k kind e : ℕ) → kind ≡ t .kind → e ≡ t .element → (eqb kind 25 || eqb kind 26) ≡ true → ltb e k ≡ elementOk k t
@@ -172,7 +167,7 @@ id-above top id (m ∷ ms) u h =
     let n : m .id ≡ id → ⊥ = λ e. omega (arith, u .0) in
     rw (ne-eqb (m .id) id n) (id-above top id ms (u .1) h)
 
-below-more : (top t : ℕ) (ms : List Member) (m : Member) → Below top ms → top ≤ t → m .id < t → Below t (ms ++ m ∷ [])
+pub below-more : (top t : ℕ) (ms : List Member) (m : Member) → Below top ms → top ≤ t → m .id < t → Below t (ms ++ m ∷ [])
 unfolding Below
 below-more top t [] m u h l = (l, tt)
 below-more top t (x ∷ xs) m u h l = (omega (arith, u .0), below-more top t xs m (u .1) h l)
@@ -187,14 +182,14 @@ unfolding pastMembers
 past-first zero s = refl
 past-first (suc n) s = ap pastMember (past-first n s)
 
-one-more : (n : ℕ) (s : List ℕ) → membersOf (suc n) s ≡ membersOf n s ++ memberOf (pastMembers n s) ∷ []
+pub one-more : (n : ℕ) (s : List ℕ) → membersOf (suc n) s ≡ membersOf n s ++ memberOf (pastMembers n s) ∷ []
 unfolding membersOf pastMembers
 one-more zero s = refl
 one-more (suc n) s =
     ap (λ (ms : List Member). memberOf s ∷ ms) (one-more n (pastMember s) ∙ (rw (past-first n s)))
 
 -- the members of the type at `at`, record k, keep the rules; and the one at p does, after the first n
-abbrev allOk : List ℕ → List BookType → ℕ → ℕ → Bool
+abbrev pub allOk : List ℕ → List BookType → ℕ → ℕ → Bool
 allOk b types at k = membersOk types k (typeAt b at) [] (typeAt b at .members)
 
 abbrev thisOk : List ℕ → List BookType → ℕ → ℕ → ℕ → ℕ → Bool
@@ -267,20 +262,21 @@ pub ruleset walk-laws = (walk-start, walk-short, walk-bad, walk-turn, walk-end)
 pub record-passed : (s : List ℕ) (l : Bool) → l ≡ recordLengthOk s → not l ≡ false → recordLengthOk s ≡ true
 record-passed s l e z = sym e ∙ not-false l z
 
-module _ (types : List BookType) (b : List ℕ) (at k : ℕ) (l : Bool) (e : l ≡ recordLengthOk (from b at)) where
-  pub record-length : not l ≡ true → false ≡ recordOk types k (from b at)
+module _ (types : List BookType) (b : List ℕ) (at k : ℕ) where
+  pub record-own : (o : Bool) → o ≡ ownOk k (typeAt b at) → not o ≡ true → false ≡ recordOk types k (from b at)
+  unfolding recordOk typeOk
+  record-own o f y = rw (← f, not-true o y) (sym (both-false (recordLengthOk (from b at))))
+
+  pub record-length : (l : Bool) → l ≡ recordLengthOk (from b at) → not l ≡ true → false ≡ recordOk types k (from b at)
   unfolding recordOk
-  record-length z = rw (← e, not-true l z)
+  record-length l e z = rw (← e, not-true l z)
 
-  pub record-own : (o : Bool) → not l ≡ false → o ≡ ownOk k (typeAt b at) → not o ≡ true → false ≡ recordOk types k (from b at)
+  pub record-members : (l o m : Bool) → l ≡ recordLengthOk (from b at) → not l ≡ false → o ≡ ownOk k (typeAt b at) → not o ≡ false → m ≡ allOk b types at k
+      → m ≡ recordOk types k (from b at)
   unfolding recordOk typeOk
-  record-own o z f y = rw (← e, not-false l z, ← f, not-true o y)
+  record-members l o m e z f y g = rw (← e, not-false l z, ← f, not-false o y) g
 
-  pub record-members : (o m : Bool) → not l ≡ false → o ≡ ownOk k (typeAt b at) → not o ≡ false → m ≡ allOk b types at k → m ≡ recordOk types k (from b at)
-  unfolding recordOk typeOk
-  record-members o m z f y g = rw (← e, not-false l z, ← f, not-false o y) g
-
-pub ruleset record-laws = (record-length, record-passed, record-own, record-members)
+pub ruleset record-laws = (record-own, record-length, record-passed, record-members)
 
 -- the records in order: k of n passed
 pub records-start : (b : List ℕ) (types : List BookType) (n : ℕ) → recordsOk types 0 (n - 0) (from b 7) ≡ recordsOk types 0 n (from b 7)
@@ -320,14 +316,34 @@ few-types b e =
     (both-second (leb 1 (typeCount b)) (leb (typeCount b) 64) (kept 2 (sizeOk b) (versionOk b ∷ typeCountOk b ∷ []) e))
 
 module _ (b : List ℕ) (h : Bool) (e : h ≡ headOk b) where
-  pub judge-head : not h ≡ true → false ≡ bookOk b
+  pub head-count : not h ≡ true → 0 ≡ pick (bookOk b) (typeCount b) 0
   unfolding bookOk
-  judge-head z = rw (← e, not-true h z)
+  head-count z = rw (← e, not-true h z)
 
-  pub judge-records : (t u : List ℕ) (n : ℕ) (r : Bool) → not h ≡ false → length t ≡ 64 → n ≡ indexCount b (length t) → u ≡ indexed b t
-      → r ≡ recordsOk (typesBy b (take (n - 0) u)) 0 (length (take (n - 0) u)) (from b 7) → r ≡ bookOk b
-  unfolding bookOk typesOf from
-  judge-records t u n r z l f g k =
-      let c : indexCount b (length t) ≡ typeCount b = omega (arith, few-types b (sym e ∙ not-false h z)) in
-      let m : n - 0 ≡ indexCount b (length t) = omega arith in
-      rw (← e, not-false h z) (rw (m, g, index-types b t, take-indexed b t, length-places, c) at k)
+  pub head-places : (t : List ℕ) → not h ≡ true → t ≡ pick (headOk b) (indexed b t) t
+  head-places t z = rw (← e, not-true h z)
+
+  module _ (t u : List ℕ) (n : ℕ) (z : not h ≡ false) (l : 64 ≤ length t) (f : n ≡ indexCount b (length t)) (g : u ≡ indexed b t) where
+    good : headOk b ≡ true
+    good = sym e ∙ not-false h z
+
+    counted : n ≡ typeCount b
+    counted = omega (arith, few-types b good)
+
+    judged : (r : Bool) → r ≡ recordsOk (typesBy b (take (n - 0) u)) 0 (length (take (n - 0) u)) (from b 7) → r ≡ bookOk b
+    unfolding bookOk typesOf from
+    judged r k =
+        let c : indexCount b (length t) ≡ typeCount b = sym f ∙ counted in
+        let m : n - 0 ≡ indexCount b (length t) = omega arith in
+        rw good (rw (m, g, index-types b t, take-indexed b t, length-places, c) at k)
+
+    pub records-places : u ≡ pick (headOk b) (indexed b t) t
+    records-places = rw good g
+
+    pub records-none : (r : Bool) → r ≡ recordsOk (typesBy b (take (n - 0) u)) 0 (length (take (n - 0) u)) (from b 7) → not r ≡ true → 0 ≡ pick (bookOk b) (typeCount b) 0
+    records-none r k y = rw (← judged r k, not-true r y)
+
+    pub records-count : (r : Bool) → r ≡ recordsOk (typesBy b (take (n - 0) u)) 0 (length (take (n - 0) u)) (from b 7) → not r ≡ false → n ≡ pick (bookOk b) (typeCount b) 0
+    records-count r k y = rw (← judged r k, not-false r y) counted
+
+pub ruleset judged-laws = (head-count, head-places, records-places, records-none, records-count)

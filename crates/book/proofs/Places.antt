@@ -35,14 +35,16 @@ module _ (b : List ℕ) (p k l : ℕ) (e : l ≡ length (from b p)) where
   pub byte-none : l ≤ k → 0 ≡ byte (from b p) k
   byte-none h = sym (List·getD-eq-default (from b p) 0 (omega arith))
 
-  pub byte-here : (r : ℕ) → r ≡ getD b (p + k) 0 → r ≡ byte (from b p) k
-  unfolding from
-  byte-here r d = d ∙ sym (getD-drop p b k 0)
-
   -- n bytes that are there
   pub fits : (n : ℕ) → 0 < n → k + n ≤ l → p + k + n ≤ length b
   unfolding from
   fits n some h = omega (arith, length-drop p b)
+
+-- what stands there
+module _ (b : List ℕ) (p k : ℕ) where
+  pub byte-here : (r : ℕ) → r ≡ getD b (p + k) 0 → r ≡ byte (from b p) k
+  unfolding from
+  byte-here r d = d ∙ sym (getD-drop p b k 0)
 
   pub pair-here : (r : ℕ) → r ≡ getD b (p + k) 0 * 256 + getD b (p + k + 1) 0 → r ≡ pair (from b p) k
   unfolding from

@@ -1,18 +1,22 @@
 // Whether a book is right: document 01's rules of a book, in reading order. Counts are tested before the loops that they bound.
 ghost use mathlib.Core.Path.{_≡_};
 ghost use mathlib.Core.Bool.{true, _&&_};
-ghost use mathlib.Core.List.{[]};
-ghost use Prim.Native.Nat.{ℕ, _<_, _≤_};
+ghost use mathlib.Core.List.{List, []};
+ghost use Prim.Native.Nat.{ℕ, _+_, _<_, _≤_};
 ghost use lib.ListN.{length};
-ghost use Rattle.ground.specs.Choice.{every};
-ghost use Rattle.book.specs.Places.{from, memberAt, typeAt, listed, earlier, Below, typesBy};
+ghost use Rattle.ground.specs.Choice.{pick, every};
+ghost use Rattle.book.specs.Types.{BookType, typeCount};
+ghost use Rattle.book.specs.Places.{from, memberAt, typeAt, listed, earlier, Below, indexed, typesBy};
 ghost use Rattle.book.specs.Rules.{headOk, filled, recordLengthOk, codesOk, boundsOk, elementOk, countOk, ownOk};
 ghost use Rattle.book.specs.Rules.{otherId, linkOk, firstIdOk, firstKindOk, firstDefaultOk, firstLabelOk};
-ghost use Rattle.book.specs.Rules.{memberOk, membersOk, recordOk, recordsOk, bookOk};
+ghost use Rattle.book.specs.Rules.{flagsOk, constructOk, labelCountOk, memberOk, membersOk, recordOk, recordsOk, bookOk};
 use crate::bytes::byte_at;
+use crate::bytes::byte_there;
 use crate::bytes::left_at;
 use crate::bytes::pair_at;
+use crate::bytes::pair_there;
 use crate::bytes::quad_at;
+use crate::bytes::quad_there;
 use crate::bytes::skip;
 use crate::index::index;
 use crate::index::place;
@@ -24,6 +28,7 @@ use crate::types::ARRAY;
 use crate::types::BITMASK;
 use crate::types::ENUM;
 use crate::types::SEQUENCE;
+use crate::types::STRUCTURE;
 use crate::types::UNION;
 
 // The index of no type.
@@ -109,39 +114,10 @@ fn count_ok(b: &[u8], at: usize) -> bool
         & (!((kind == ENUM) | (kind == UNION)) | (1 <= n))
 }
 
-// Whether the type has an extensibility and a kind that asks for nothing else, and no base, bound, element or member. Most have, and keep
-// every rule of their own bytes.
-fn is_plain(b: &[u8], at: usize) -> bool
-    ensures { λ r. ⌜ ((k : ℕ) → r ≡ true → true ≡ ownOk k (typeAt (now (b .entry)) at)) ⌝ }
-{
-    if ANNOTATION < types::kind(b, at) {
-        return false;
-    }
-    if 2 < types::extensibility(b, at) {
-        return false;
-    }
-    if types::base(b, at) != 0 {
-        return false;
-    }
-    if types::bound_flag(b, at) != 0 {
-        return false;
-    }
-    if types::bound(b, at) != 0 {
-        return false;
-    }
-    if types::element(b, at) != NONE {
-        return false;
-    }
-    member::member_count(b, at) == 0
-}
-
 // The own bytes of record k.
 fn own_ok(b: &[u8], at: usize, k: usize) -> bool
     ensures { λ r. ⌜ r ≡ ownOk k (typeAt (now (b .entry)) at) ⌝ }
 {
-    if is_plain(b, at) {
-        return true;
-    }
     codes_ok(b, at) & bound_ok(b, at) & element_ok(b, at, k) & count_ok(b, at)
 }
 
@@ -262,14 +238,127 @@ fn members_ok(b: &[u8], index: &[u32], at: usize, k: usize) -> bool
     true
 }
 
+// Whether the member at p, whose 9 bytes are there, keeps the rules of every member but that of its id. Its type, record k, is no enum.
+fn fields_ok(b: &[u8], k: usize, p: usize) -> bool
+    requires { ⌜ p + 9 ≤ length (now b) ⌝ }
+    ensures { λ r. ⌜ ((t : BookType) → (t .kind ≡ 21 → ⊥) → r ≡ true → true ≡ (linkOk k t (memberAt (now (b .entry)) p) && flagsOk (memberAt (now (b .entry)) p) && constructOk (memberAt (now (b .entry)) p) && labelCountOk (memberAt (now (b .entry)) p))) ⌝ }
+{
+    if k <= pair_there(b, p, 4) {
+        return false;
+    }
+    if 3 < byte_there(b, p, 6) {
+        return false;
+    }
+    if 2 < byte_there(b, p, 7) {
+        return false;
+    }
+    byte_there(b, p, 8) <= 16
+}
+
+// Whether the own bytes, which are there, are those of a structure: an extensibility and at most 64 members, and nothing else.
+fn own_plain(b: &[u8], at: usize) -> bool
+    requires { ⌜ at + 14 ≤ length (now b) ⌝ }
+    ensures { λ r. ⌜ (r ≡ true → typeAt (now (b .entry)) at .kind ≡ 22) × ((k : ℕ) → r ≡ true → true ≡ ownOk k (typeAt (now (b .entry)) at)) ⌝ }
+{
+    if byte_there(b, at, 2) != STRUCTURE {
+        return false;
+    }
+    if 2 < byte_there(b, at, 3) {
+        return false;
+    }
+    // base, flag and half of the bound; the other half, and the element
+    if quad_there(b, at, 4) != 0 {
+        return false;
+    }
+    if quad_there(b, at, 8) != 65535 {
+        return false;
+    }
+    pair_there(b, at, 12) <= 64
+}
+
+// Whether the record is a structure's that keeps every rule, its ids rising from member to member. Most structures' are: one walk tells of
+// them what else takes two. Of other records it tells nothing.
+fn is_structure(b: &[u8], at: usize, k: usize) -> bool
+    ensures { λ r. ⌜ ((types : List BookType) → r ≡ true → true ≡ recordOk types k (from (now (b .entry)) at)) ⌝ }
+{
+    let size = pair_at(b, at, 0);
+    if left_at(b, at) < size {
+        return false;
+    }
+    if size < 14 {
+        return false;
+    }
+    if !own_plain(b, at) {
+        return false;
+    }
+    let mut p = at + 14;
+    let mut left = member::member_count(b, at);
+    let mut room = size - 14;
+    let mut top = 0;
+    while 0 < left {
+        if room < 9 {
+            return false;
+        }
+        let id = quad_there(b, p, 0) as u64;
+        if id < top {
+            return false;
+        }
+        if !fields_ok(b, k, p) {
+            return false;
+        }
+        let step = 9 + 4 * byte_there(b, p, 8);
+        if room < step {
+            return false;
+        }
+        top = id + 1;
+        p += step;
+        room -= step;
+        left -= 1;
+    }
+    room == 0
+}
+
+// Whether the record is of 14 bytes, with an extensibility and a kind that asks for nothing else, and no base, bound, element or member.
+// Most are, and keep every rule.
+fn is_plain(b: &[u8], at: usize) -> bool
+    ensures { λ r. ⌜ ((types : List BookType) (k : ℕ) → r ≡ true → true ≡ recordOk types k (from (now (b .entry)) at)) ⌝ }
+{
+    if left_at(b, at) < 14 {
+        return false;
+    }
+    if pair_there(b, at, 0) != 14 {
+        return false;
+    }
+    if ANNOTATION < byte_there(b, at, 2) {
+        return false;
+    }
+    if 2 < byte_there(b, at, 3) {
+        return false;
+    }
+    // base, flag and half of the bound; the other half, and the element
+    if quad_there(b, at, 4) != 0 {
+        return false;
+    }
+    if quad_there(b, at, 8) != 65535 {
+        return false;
+    }
+    pair_there(b, at, 12) == 0
+}
+
 // Record k, at a place.
 fn record_ok(b: &[u8], index: &[u32], at: usize, k: usize) -> bool
     ensures { λ r. ⌜ r ≡ recordOk (typesBy (now (b .entry)) (now (index .entry))) k (from (now (b .entry)) at) ⌝ }
 {
-    if !record_length_ok(b, at) {
-        return false;
+    if is_plain(b, at) {
+        return true;
+    }
+    if is_structure(b, at, k) {
+        return true;
     }
     if !own_ok(b, at, k) {
+        return false;
+    }
+    if !record_length_ok(b, at) {
         return false;
     }
     members_ok(b, index, at, k)
@@ -291,13 +380,25 @@ fn records_ok(b: &[u8], index: &[u32]) -> bool
     left_at(b, p) == 0
 }
 
+// How many types a right book has, and 0 of any other. Leaves the places of the types, which it judges by, as `index` does; where the
+// head is not right it writes none.
+pub fn judge_into(b: &[u8], lent: &mut [u32]) -> usize
+    requires { ⌜ 64 ≤ length (now lent) ⌝ }
+    ensures { λ r. ⌜ (r ≡ pick (bookOk (now (b .entry))) (typeCount (now (b .entry))) 0) × (now (lent .exit) ≡ pick (headOk (now (b .entry))) (indexed (now (b .entry)) (now (lent .entry))) (now (lent .entry))) ⌝ }
+{
+    if !head_ok(b) {
+        return 0;
+    }
+    let n = index(b, lent);
+    if !records_ok(b, &lent[0..n]) {
+        return 0;
+    }
+    n
+}
+
 pub fn judge(b: &[u8]) -> bool
     ensures { λ r. ⌜ r ≡ bookOk (now (b .entry)) ⌝ }
 {
-    if !head_ok(b) {
-        return false;
-    }
     let mut places = [0u32; 64];
-    let n = index(b, &mut places);
-    records_ok(b, &places[0..n])
+    0 < judge_into(b, &mut places)
 }

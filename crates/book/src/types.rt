@@ -14,6 +14,8 @@ pub const ANNOTATION: usize = 20;
 
 pub const ENUM: usize = 21;
 
+pub const STRUCTURE: usize = 22;
+
 pub const UNION: usize = 23;
 
 pub const SEQUENCE: usize = 25;

@@ -5,15 +5,17 @@ use mathlib.Core.List.{List, [], _∷_, _++_, append-nil}
 use Prim.Native.Nat.{ℕ, zero, suc, _+_, _-_, _≤_, _<_}
 use native.Mathlib.Omega.{arith}
 use native.Mathlib.Nat.{le-refl}
-use lib.ListN.{length, getD, take, drop, set, length-take, length-drop, drop-of-length-le}
-use lib.Seq.{take-at, take-length, getD-set-same}
+use lib.Dec.{ltb}
+use lib.ListN.{length, getD, take, drop, set, length-append, length-take, length-drop, drop-of-length-le}
+use lib.Seq.{take-at, take-length}
 use borrow.Rule.Slice.PartMut.{putMid}
 use borrow.Author.Tests.{le-ltb, lt-ltb, eq-eqb, ne-eqb, not-true, not-false}
 use Rattle.book.specs.Types.{BookType, typeCount, typesOf}
 use Rattle.book.specs.Places.{from, placesFrom, indexCount, indexed, typesBy}
-use Rattle.book.specs.Rules.{bookOk}
+use Rattle.ground.specs.Choice.{pick}
+use Rattle.book.specs.Rules.{headOk, bookOk}
 use Rattle.book.proofs.Indexing.{places-spell, length-places}
-use Rattle.book.proofs.Good.{count-good}
+use Rattle.book.proofs.Good.{head-good, count-good}
 use Rattle.sinotayam.specs.declared.answer.Number.{Number}
 use Rattle.sinotayam.specs.declared.answer.Number.the-variants.{Read, BadBook, NoRoom}
 use Rattle.sinotayam.specs.declared.answer.Answer.{Answer}
@@ -111,12 +113,6 @@ module _ (b index : List ℕ) (next : List BookType → Result) (n : ℕ) (is : 
 
 -- PREPARED READING IS READING
 module _ (b lent : List ℕ) (next : List BookType → Result) where
-  same-bad : bookOk b ≡ false → 0 < length lent → withIndex b (preparedFrom b lent) next ≡ withBook b next
-  unfolding withIndex withBook preparedFrom placesIn refusedIf
-  same-bad e long =
-      let z : getD (set lent 0 0) 0 0 ≡ 0 = getD-set-same lent 0 0 0 long in
-      rw (e, z)
-
   same-good : bookOk b ≡ true → hasPlaces b lent ≡ true → withIndex b (preparedFrom b lent) next ≡ withBook b next
   unfolding withIndex withBook preparedFrom placesIn refusedIf typesOf from
   same-good e h =
@@ -135,14 +131,44 @@ module _ (b lent : List ℕ) (next : List BookType → Result) where
       by-book true e false h = let z : _≡_ {A = ℕ} 13 0 = rw (e, h) at said in absurd (omega arith)
       by-book false e g h = let z : _≡_ {A = ℕ} 8 0 = rw e at said in absurd (omega arith)
 
-  -- and with what it leaves of any book in an index of 65 words or more
-  prepared-long : 64 < length lent → withIndex b (preparedFrom b lent) next ≡ withBook b next
-  unfolding hasPlaces
-  prepared-long long = by-book (bookOk b) refl
-    where
-      by-book : (f : Bool) → bookOk b ≡ f → withIndex b (preparedFrom b lent) next ≡ withBook b next
-      by-book true e = same-good e (lt-ltb (typeCount b) (length lent) (omega (arith, count-good b e .1)))
-      by-book false e = same-bad e (omega arith)
+-- the judge counts 64 types at most
+pub judged-few : (b : List ℕ) (n : ℕ) → n ≡ pick (bookOk b) (typeCount b) 0 → n ≤ 64
+judged-few b n g = by-book (bookOk b) refl
+  where
+    by-book : (f : Bool) → bookOk b ≡ f → n ≤ 64
+    by-book true e = let c : n ≡ typeCount b = rw e at g in omega (arith, count-good b e .1)
+    by-book false e = let z : n ≡ 0 = rw e at g in omega arith
 
-pub read-same : (b lent u : List ℕ) (next : List BookType → Result) (t v : List ℕ) (r : Answer) → 64 < length lent → u ≡ preparedFrom b lent → Settled (withIndex b u next) t v r → Settled (withBook b next) t v r
-read-same b lent u next t v r h e d = settled-same (sym (prepared-long b lent next h)) (rw e at d)
+-- reading with an index of its own: the count, and the words t as the judge leaves them
+module _ (b t ys : List ℕ) (n : ℕ) (next : List BookType → Result) (long : 64 ≤ length t) (g : n ≡ pick (bookOk b) (typeCount b) 0) (k : ys ≡ pick (headOk b) (indexed b t) t) where
+  judged-good : bookOk b ≡ true → withIndex b (n ∷ (ys ++ [])) next ≡ withBook b next
+  unfolding preparedFrom hasPlaces
+  judged-good e =
+      let few : typeCount b ≤ 64 = count-good b e .1 in
+      let h : ltb (typeCount b) (length (0 ∷ t)) ≡ true = lt-ltb (typeCount b) (length (0 ∷ t)) (omega arith) in
+      let c : n ≡ typeCount b = rw e at g in
+      let i : indexCount b (length t) ≡ typeCount b = omega arith in
+      let w : ys ≡ placesFrom b 7 (typeCount b) ++ drop (typeCount b) t = rw (head-good b e, i) at k in
+      let u : n ∷ (ys ++ []) ≡ preparedFrom b (0 ∷ t) = rw (e, h, append-nil ys, w, c) in
+      rw u (same-good b (0 ∷ t) next e h)
+
+  judged-bad : bookOk b ≡ false → withIndex b (n ∷ (ys ++ [])) next ≡ withBook b next
+  unfolding withIndex withBook placesIn refusedIf
+  judged-bad e =
+      let z : n ≡ 0 = rw e at g in
+      rw (e, z)
+
+  pub read-judged : (v w : List ℕ) (r : Answer) → Settled (withIndex b (n ∷ (ys ++ [])) next) v w r → Settled (withBook b next) v w r
+  read-judged v w r d = settled-same (sym (by-book (bookOk b) refl)) d
+    where
+      by-book : (f : Bool) → bookOk b ≡ f → withIndex b (n ∷ (ys ++ [])) next ≡ withBook b next
+      by-book true e = judged-good e
+      by-book false e = judged-bad e
+
+-- its length
+pub judged-words : (b t ys : List ℕ) → ys ≡ pick (headOk b) (indexed b t) t → length t ≡ 64 → 65 ≡ suc (length (ys ++ []))
+judged-words b t ys k l = rw (append-nil ys, k) (by-head (headOk b))
+  where
+    by-head : (f : Bool) → 65 ≡ suc (length (pick f (indexed b t) t))
+    by-head true = simp (length-append, length-places, length-drop) (omega arith)
+    by-head false = omega arith

@@ -17,11 +17,11 @@ use crate::answer::Number;
 use crate::answer::refused;
 use crate::prepared::WORDS;
 use crate::prepared::count;
-use crate::prepared::prepare;
 use crate::reading::HEADER;
 use crate::reading::LONGEST;
 use crate::reading::data_by;
 use crate::reading::identified;
+use book::judge::judge_into;
 
 // A message of one of the types at these places.
 fn message_by(book: &[u8], places: &[u32], root: usize, message: &[u8], table: &mut [u64]) -> Answer
@@ -77,12 +77,14 @@ pub fn read_data_prepared(
     data_by(book, &index[1..end], root, id, s, table)
 }
 
-// Reads a message: the Rust's deserialize_top_level_type.
+// Reads a message: the Rust's deserialize_top_level_type. The index is this call's own, so the judge's places go into it before the
+// verdict.
 pub fn read(book: &[u8], root: usize, message: &[u8], table: &mut [u64]) -> Answer
     ensures { λ r. ⌜ Settled (readOf (now (book .entry)) root (now (message .entry)) (capacity (now (table .entry)))) (now (table .entry)) (now (table .exit)) r ⌝ }
 {
     let mut index = [0u32; WORDS];
-    prepare(book, &mut index);
+    let n = judge_into(book, &mut index[1..]);
+    index[0] = n as u32;
     read_prepared(book, &index, root, message, table)
 }
 
@@ -91,6 +93,7 @@ pub fn read_data(book: &[u8], root: usize, id: [u8; 2], s: &[u8], table: &mut [u
     ensures { λ r. ⌜ Settled (readDataOf (now (book .entry)) root id (now (s .entry)) (capacity (now (table .entry)))) (now (table .entry)) (now (table .exit)) r ⌝ }
 {
     let mut index = [0u32; WORDS];
-    prepare(book, &mut index);
+    let n = judge_into(book, &mut index[1..]);
+    index[0] = n as u32;
     read_data_prepared(book, &index, root, id, s, table)
 }

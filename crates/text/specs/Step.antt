@@ -1,5 +1,7 @@
 -- What the state of a check says of the bytes or units to come.
-use Prim.Native.Nat.{ℕ, zero, suc}
+use Prim.Native.Nat.{ℕ, zero, suc, _≤_}
+use mathlib.Core.Path.{_≡_}
+use lib.ListN.{length, drop}
 use mathlib.Core.List.{List, [], _∷_}
 use mathlib.Core.Bool.{Bool, false}
 use Rattle.ground.specs.Choice.{Range, _‥_}
@@ -33,6 +35,12 @@ followOf (step.Next w) = ranges (wants w)
 abbrev pub after : Step → List ℕ → Bool
 after step.Bad xs = false
 after (step.Next w) xs = restGood table37 xs (wants w)
+
+-- the bytes from r on end well, with these ranges wanted, exactly when those from a place before it do
+pub record Passed (s : List ℕ) (rs : List Range) (at r : ℕ) : Type 0 where
+  pub onward : at ≤ r
+  pub inside : r ≤ length s
+  pub same : restGood table37 (drop r s) rs ≡ restGood table37 (drop at s) rs
 
 -- the units us end well in this state
 abbrev pub goodFrom : State → List ℕ → Bool

@@ -1,10 +1,10 @@
 // Whether bytes are well-formed UTF-8, by the Unicode standard's Table 3-7.
 ghost use mathlib.Core.Path.{_≡_};
-ghost use mathlib.Core.List.{List, _∷_};
+ghost use mathlib.Core.List.{List, [], _∷_};
 ghost use Prim.Native.Nat.{ℕ, _<_, _≤_};
 ghost use lib.ListN.{length, getD};
 ghost use Rattle.text.specs.Unicode.{table37, follow, restGood, utf8};
-ghost use Rattle.text.specs.Step.{wantOf, wants, followOf, after};
+ghost use Rattle.text.specs.Step.{wantOf, wants, followOf, after, Passed};
 
 // What has to come: `left` bytes, of which the next is from `lo` to `hi` and any other from 80 to BF.
 pub struct Want {
@@ -80,7 +80,50 @@ fn highest(s: &[u8]) -> u8
     top
 }
 
-// Most text is ASCII, which the highest byte tells; the bytes of any other are taken one after the other, from the first.
+// Past the bytes below 80, 16 at a time, which the compiler takes at once.
+fn past_blocks(s: &[u8], at: usize) -> usize
+    requires { ⌜ at ≤ length (now s) ⌝ }
+    ensures { λ r. ⌜ Passed (now (s .entry)) [] at r ⌝ }
+{
+    let mut i = at;
+    while 16 <= s.len() - i {
+        let end = i + 16;
+        if 0x80 <= highest(&s[i..end]) {
+            return i;
+        }
+        i = end;
+    }
+    i
+}
+
+// The place of the next byte that is not below 80.
+fn past_ascii(s: &[u8], at: usize) -> usize
+    requires { ⌜ at ≤ length (now s) ⌝ }
+    ensures { λ r. ⌜ Passed (now (s .entry)) [] at r ⌝ }
+{
+    let mut i = past_blocks(s, at);
+    while i < s.len() {
+        if 0x80 <= s[i] {
+            return i;
+        }
+        i += 1;
+    }
+    i
+}
+
+// Where nothing is wanted, bytes below 80 change nothing.
+fn next_place(s: &[u8], at: usize, want: Want) -> usize
+    requires { ⌜ at ≤ length (now s) ⌝ }
+    ensures { λ r. ⌜ Passed (now (s .entry)) (wants want) at r ⌝ }
+{
+    let left = want.left;
+    if left == 0 {
+        return past_ascii(s, at);
+    }
+    at
+}
+
+// Most text is ASCII, which the highest byte tells; of any other, the bytes that are not are taken one after the other, from the first.
 pub fn is_utf8(s: &[u8]) -> bool
     ensures { λ r. ⌜ r ≡ utf8 (now (s .entry)) ⌝ }
 {
@@ -93,12 +136,15 @@ pub fn is_utf8(s: &[u8]) -> bool
         hi: 0,
     };
     let mut i = 0;
-    while i < s.len() {
-        let Step::Next(next) = take(want, s[i]) else {
+    loop {
+        let at = next_place(s, i, want);
+        if s.len() <= at {
+            return want.left == 0;
+        }
+        let Step::Next(next) = take(want, s[at]) else {
             return false;
         };
         want = next;
-        i += 1;
+        i = at + 1;
     }
-    want.left == 0
 }

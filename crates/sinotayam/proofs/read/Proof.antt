@@ -1,16 +1,29 @@
-use Rattle.sinotayam.proofs.Preparing.{read-same}
+use native.Mathlib.Omega.{arith}
+use Rattle.sinotayam.proofs.Preparing.{judged-few, judged-words, read-judged}
 use borrow.Author.Needs.{needs}
 use Rattle.sinotayam.proofs.read.Statement.{statement}
 use Rattle.sinotayam.proofs.read.Tie as tie
 
-slice-aggregate-prepare : tie.Need-slice-aggregate-prepare
-slice-aggregate-prepare c = search needs
+sub-judge-into : tie.Need-sub-judge-into
+sub-judge-into c = search needs
 
-prepare-requires : tie.Need-prepare-requires
-prepare-requires c κs = search needs
+part-index-start : tie.Need-part-index-start
+part-index-start c = search needs
+
+part-index-end : tie.Need-part-index-end
+part-index-end c = search needs
+
+judge-into-requires : tie.Need-judge-into-requires
+judge-into-requires c κs = search needs
+
+cast-index : tie.Need-cast-index
+cast-index c = omega (arith, judged-few _ _ (c .before .judge-into .ensures .0))
+
+array-write-index : tie.Need-array-write-index
+array-write-index c = search needs
 
 slice-aggregate-read-prepared : tie.Need-slice-aggregate-read-prepared
-slice-aggregate-read-prepared c = search needs
+slice-aggregate-read-prepared c = search (needs, judged-words)
 
 read-prepared-requires : tie.Need-read-prepared-requires
 read-prepared-requires c κs = search needs
@@ -19,14 +32,18 @@ same-length : tie.Need-same-length
 same-length c = search needs
 
 returns : tie.Need-returns
-returns c = search (needs, read-same)
+returns c = search (needs, read-judged)
 
 pub read-spec : {M : Type 1} → statement M
 read-spec =
     tie.close
     (tie.spec
-    slice-aggregate-prepare
-    prepare-requires
+    sub-judge-into
+    part-index-start
+    part-index-end
+    judge-into-requires
+    cast-index
+    array-write-index
     slice-aggregate-read-prepared
     read-prepared-requires
     same-length

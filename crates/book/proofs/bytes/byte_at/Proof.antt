@@ -1,6 +1,5 @@
 -- `book::bytes::byte_at` is the byte that the list from p on has, 0 where it has none.
-use native.Mathlib.Omega.{arith}
-use Rattle.book.proofs.Places.{inside, byte-none, byte-here}
+use Rattle.book.proofs.Places.{inside, byte-none}
 use borrow.Author.Needs.{needs}
 use Rattle.book.proofs.bytes.byte_at.Statement.{statement}
 use Rattle.book.proofs.bytes.byte_at.Tie as tie
@@ -11,19 +10,11 @@ left-at-requires c κs = search needs
 returns : tie.Need-returns
 returns c = search (needs, byte-none)
 
-add-i : tie.Need-add-i
-add-i c = omega (arith, inside _ _ _ _ (c .before .left-at .ensures) (c .if1 .left))
-
-shared-slice-read-wide : tie.Need-shared-slice-read-wide
-shared-slice-read-wide c = omega (arith, inside _ _ _ _ (c .before .before .left-at .ensures) (c .before .if1 .left))
-
-wide-requires : tie.Need-wide-requires
-wide-requires c κs = search needs
+byte-there-requires : tie.Need-byte-there-requires
+byte-there-requires c κs = inside _ _ _ _ (c .before .left-at .ensures) (c .if1 .left)
 
 returns-2 : tie.Need-returns-2
-returns-2 c = search (needs, byte-here)
+returns-2 c = search needs
 
 pub byte-at-spec : {M : Type 1} → statement M
-byte-at-spec =
-    tie.close
-    (tie.spec left-at-requires returns add-i shared-slice-read-wide wide-requires returns-2)
+byte-at-spec = tie.close (tie.spec left-at-requires returns byte-there-requires returns-2)

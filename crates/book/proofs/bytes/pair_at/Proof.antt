@@ -1,7 +1,6 @@
 -- `book::bytes::pair_at` is the number of two bytes: read together where both are there, and one by one, a byte past the end being 0. Assumes nothing.
-use native.Mathlib.Omega.{arith}
 use lib.Dec.{lit<}
-use Rattle.book.proofs.Places.{fits, pair-here}
+use Rattle.book.proofs.Places.{fits}
 use borrow.Author.Needs.{needs}
 use Rattle.book.proofs.bytes.pair_at.Statement.{statement}
 use Rattle.book.proofs.bytes.pair_at.Tie as tie
@@ -12,23 +11,11 @@ add-if1 c = search needs
 left-at-requires : tie.Need-left-at-requires
 left-at-requires c κs = search needs
 
-add-i : tie.Need-add-i
-add-i c = omega (arith, fits _ _ _ _ (c .before .left-at .ensures) 2 (lit< tt) (c .if1 .taken))
-
-shared-slice-read-two : tie.Need-shared-slice-read-two
-shared-slice-read-two c = omega (arith, fits _ _ _ _ (c .before .before .left-at .ensures) 2 (lit< tt) (c .before .if1 .taken))
-
-add-two : tie.Need-add-two
-add-two c = omega (arith, fits _ _ _ _ (c .before .before .left-at .ensures) 2 (lit< tt) (c .before .if1 .taken))
-
-shared-slice-read-two-2 : tie.Need-shared-slice-read-two-2
-shared-slice-read-two-2 c = omega (arith, fits _ _ _ _ (c .before .before .before .left-at .ensures) 2 (lit< tt) (c .before .before .if1 .taken))
-
-two-requires : tie.Need-two-requires
-two-requires c κs = search needs
+pair-there-requires : tie.Need-pair-there-requires
+pair-there-requires c κs = fits _ _ _ _ (c .before .left-at .ensures) 2 (lit< tt) (c .if1 .taken)
 
 returns : tie.Need-returns
-returns c = search (needs, pair-here)
+returns c = search needs
 
 byte-at-requires : tie.Need-byte-at-requires
 byte-at-requires c κs = search needs
@@ -54,11 +41,7 @@ pair-at-spec =
     (tie.spec
     add-if1
     left-at-requires
-    add-i
-    shared-slice-read-two
-    add-two
-    shared-slice-read-two-2
-    two-requires
+    pair-there-requires
     returns
     byte-at-requires
     mul-result

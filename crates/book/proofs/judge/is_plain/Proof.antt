@@ -1,65 +1,72 @@
-use Rattle.book.proofs.Judging.{plain-laws}
+-- `book::judge::is_plain`: the 14 bytes are there, and a "no" says nothing.
+use native.Mathlib.Omega.{arith}
+use lib.Dec.{lit<}
+use Rattle.ground.proofs.Tests.{apart}
+use Rattle.book.proofs.Places.{fits}
+use Rattle.book.proofs.Rising.{plain-record}
 use borrow.Author.Needs.{needs}
 use Rattle.book.proofs.judge.is_plain.Statement.{statement}
 use Rattle.book.proofs.judge.is_plain.Tie as tie
 
-kind-requires : tie.Need-kind-requires
-kind-requires c κs = search needs
+left-at-requires : tie.Need-left-at-requires
+left-at-requires c κs = search needs
 
 returns : tie.Need-returns
-returns c = search (needs, plain-laws)
+returns c = λ types k e. absurd (apart e)
 
-extensibility-requires : tie.Need-extensibility-requires
-extensibility-requires c κs = search needs
+pair-there-requires : tie.Need-pair-there-requires
+pair-there-requires c κs = omega (arith, fits _ _ 0 _ (c .before .left-at .ensures) 14 (lit< tt) (c .if1 .left))
 
 returns-2 : tie.Need-returns-2
-returns-2 c = search (needs, plain-laws)
+returns-2 c = λ types k e. absurd (apart e)
 
-base-requires : tie.Need-base-requires
-base-requires c κs = search needs
+byte-there-requires : tie.Need-byte-there-requires
+byte-there-requires c κs = omega (arith, fits _ _ 0 _ (c .before .before .before .left-at .ensures) 14 (lit< tt) (c .before .before .if1 .left))
 
 returns-3 : tie.Need-returns-3
-returns-3 c = search (needs, plain-laws)
+returns-3 c = λ types k e. absurd (apart e)
 
-bound-flag-requires : tie.Need-bound-flag-requires
-bound-flag-requires c κs = search needs
+byte-there-requires-2 : tie.Need-byte-there-requires-2
+byte-there-requires-2 c κs = omega (arith, fits _ _ 0 _ (c .before .before .before .before .before .left-at .ensures) 14 (lit< tt) (c .before .before .before .before .if1 .left))
 
 returns-4 : tie.Need-returns-4
-returns-4 c = search (needs, plain-laws)
+returns-4 c = λ types k e. absurd (apart e)
 
-bound-requires : tie.Need-bound-requires
-bound-requires c κs = search needs
+quad-there-requires : tie.Need-quad-there-requires
+quad-there-requires c κs = omega (arith, fits _ _ 0 _ (c .before .before .before .before .before .before .before .left-at .ensures) 14 (lit< tt) (c .before .before .before .before .before .before .if1 .left))
 
 returns-5 : tie.Need-returns-5
-returns-5 c = search (needs, plain-laws)
+returns-5 c = λ types k e. absurd (apart e)
 
-element-requires : tie.Need-element-requires
-element-requires c κs = search needs
+quad-there-requires-2 : tie.Need-quad-there-requires-2
+quad-there-requires-2 c κs = omega (arith, fits _ _ 0 _ (c .before .before .before .before .before .before .before .before .before .left-at .ensures) 14 (lit< tt) (c .before .before .before .before .before .before .before .before .if1 .left))
 
 returns-6 : tie.Need-returns-6
-returns-6 c = search (needs, plain-laws)
+returns-6 c = λ types k e. absurd (apart e)
 
-member-count-requires : tie.Need-member-count-requires
-member-count-requires c κs = search needs
+pair-there-requires-2 : tie.Need-pair-there-requires-2
+pair-there-requires-2 c κs = omega (arith, fits _ _ 0 _ (c .before .before .before .before .before .before .before .before .before .before .before .left-at .ensures) 14 (lit< tt) (c .before .before .before .before .before .before .before .before .before .before .if1 .left))
 
 returns-7 : tie.Need-returns-7
-returns-7 c = search (needs, plain-laws)
+returns-7 c = λ types k z. plain-record _ _ _ _ _ _ _ (c .before .before .before .before .before .before .before .before .before .before .pair-there .ensures .0) (c .before .before .before .before .before .before .before .before .byte-there .ensures .0) (c .before .before .before .before .before .before .byte-there2 .ensures .0)
+    (c .before .before .before .before .quad-there .ensures) (c .before .before .quad-there2 .ensures) (c .pair-there2 .ensures .0) z
+    _ (c .before .before .before .before .before .before .before .before .before .before .before .before .left-at .ensures) (c .before .before .before .before .before .before .before .before .before .before .before .if1 .left) (c .before .before .before .before .before .before .before .before .before .if2 .left) (c .before .before .before .before .before .before .before .if3 .left) (c .before .before .before .before .before .if4 .left) (c .before .before .before .if5 .left) (c .before .if6 .left) types k
 
 pub is-plain-spec : {M : Type 1} → statement M
 is-plain-spec =
     tie.close
     (tie.spec
-    kind-requires
+    left-at-requires
     returns
-    extensibility-requires
+    pair-there-requires
     returns-2
-    base-requires
+    byte-there-requires
     returns-3
-    bound-flag-requires
+    byte-there-requires-2
     returns-4
-    bound-requires
+    quad-there-requires
     returns-5
-    element-requires
+    quad-there-requires-2
     returns-6
-    member-count-requires
+    pair-there-requires-2
     returns-7)

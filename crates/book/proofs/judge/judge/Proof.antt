@@ -1,46 +1,17 @@
--- `book::judge::judge`: the head, then the records by an index of its own, which spells the types.
-use Rattle.book.proofs.Judging.{judge-head, judge-records}
+-- `book::judge::judge`: a right book has a type.
+use Rattle.book.proofs.Good.{judge-count}
 use borrow.Author.Needs.{needs}
 use Rattle.book.proofs.judge.judge.Statement.{statement}
 use Rattle.book.proofs.judge.judge.Tie as tie
 
-head-ok-requires : tie.Need-head-ok-requires
-head-ok-requires c κs = search needs
+slice-aggregate-judge-into : tie.Need-slice-aggregate-judge-into
+slice-aggregate-judge-into c = search needs
+
+judge-into-requires : tie.Need-judge-into-requires
+judge-into-requires c κs = search needs
 
 returns : tie.Need-returns
-returns c = search (needs, judge-head)
-
-slice-aggregate-index : tie.Need-slice-aggregate-index
-slice-aggregate-index c = search needs
-
-index-requires : tie.Need-index-requires
-index-requires c κs = search needs
-
-sub-records-ok : tie.Need-sub-records-ok
-sub-records-ok c = search needs
-
-part-records-ok-start : tie.Need-part-records-ok-start
-part-records-ok-start c = search needs
-
-part-records-ok-end : tie.Need-part-records-ok-end
-part-records-ok-end c = search needs
-
-records-ok-requires : tie.Need-records-ok-requires
-records-ok-requires c κs = search needs
-
-returns-2 : tie.Need-returns-2
-returns-2 c = search (needs, judge-records)
+returns c = search (needs, judge-count)
 
 pub judge-spec : {M : Type 1} → statement M
-judge-spec =
-    tie.close
-    (tie.spec
-    head-ok-requires
-    returns
-    slice-aggregate-index
-    index-requires
-    sub-records-ok
-    part-records-ok-start
-    part-records-ok-end
-    records-ok-requires
-    returns-2)
+judge-spec = tie.close (tie.spec slice-aggregate-judge-into judge-into-requires returns)

@@ -3,12 +3,6 @@ use borrow.Author.Needs.{needs}
 use Rattle.book.proofs.judge.own_ok.Statement.{statement}
 use Rattle.book.proofs.judge.own_ok.Tie as tie
 
-is-plain-requires : tie.Need-is-plain-requires
-is-plain-requires c κs = search needs
-
-returns : tie.Need-returns
-returns c = c .before .is-plain .ensures _ (c .if1 .taken)
-
 codes-ok-requires : tie.Need-codes-ok-requires
 codes-ok-requires c κs = search needs
 
@@ -21,11 +15,11 @@ element-ok-requires c κs = search needs
 count-ok-requires : tie.Need-count-ok-requires
 count-ok-requires c κs = search needs
 
-returns-2 : tie.Need-returns-2
+returns : tie.Need-returns
 unfolding ownOk
-returns-2 c = rw (c .count-ok .ensures, c .before .element-ok .ensures, c .before .before .bound-ok .ensures, c .before .before .before .codes-ok .ensures)
+returns c = rw (c .count-ok .ensures, c .before .element-ok .ensures, c .before .before .bound-ok .ensures, c .before .before .before .codes-ok .ensures)
 
 pub own-ok-spec : {M : Type 1} → statement M
 own-ok-spec =
     tie.close
-    (tie.spec is-plain-requires returns codes-ok-requires bound-ok-requires element-ok-requires count-ok-requires returns-2)
+    (tie.spec codes-ok-requires bound-ok-requires element-ok-requires count-ok-requires returns)

@@ -26,6 +26,12 @@ loop-holds : tie.Need-loop-holds Inv-loop μ-loop
 unfolding wantsOf
 loop-holds c = (search needs, refl)
 
+next-place-requires : tie.Need-next-place-requires Inv-loop μ-loop
+next-place-requires c κs = search needs
+
+returns-2 : tie.Need-returns-2 Inv-loop μ-loop
+returns-2 c = at-end _ _ _ _ (c .before .if2 .taken) ∙ c .before .before .next-place .ensures .same ∙ c .before .before .before .loop .inv .1
+
 shared-slice-read-take : tie.Need-shared-slice-read-take Inv-loop μ-loop
 shared-slice-read-take c = search needs
 
@@ -38,10 +44,10 @@ enum-known-next c = search needs
 enum-told : tie.Need-enum-told Inv-loop μ-loop
 enum-told c = search needs
 
-returns-2 : tie.Need-returns-2 Inv-loop μ-loop
-returns-2 c = let t = c .before .before .take in
+returns-3 : tie.Need-returns-3 Inv-loop μ-loop
+returns-3 c = let t = c .before .before .take in
     let l = c .before .before .before .before in
-    turn-bad _ _ (l .before .loop .want) (t .result) (l .loop-test .taken) (t .ensures) (c .enum-told .given .1) ∙ l .before .loop .inv .1
+    turn-bad _ _ (l .before .before .loop .want) (t .result) (l .if2 .left) (t .ensures) (c .enum-told .given .1) ∙ l .before .next-place .ensures .same ∙ l .before .before .loop .inv .1
 
 add-i : tie.Need-add-i Inv-loop μ-loop
 add-i c = search needs
@@ -53,11 +59,9 @@ loop-again : tie.Need-loop-again Inv-loop μ-loop
 loop-again c = let t = c .before .before .before .take in
     let l = c .before .before .before .before .before in (
       search needs,
-      turn-next _ _ (l .before .loop .want) (t .result) (l .loop-test .taken) (t .ensures) _ (c .before .next .given .1) ∙ l .before .loop .inv .1,
+      turn-next _ _ (l .before .before .loop .want) (t .result) (l .if2 .left) (t .ensures) _ (c .before .next .given .1) ∙ l .before .next-place .ensures .same
+          ∙ l .before .before .loop .inv .1,
     )
-
-returns-3 : tie.Need-returns-3 Inv-loop μ-loop
-returns-3 c = at-end _ _ _ _ (c .before .loop-test .left) ∙ c .before .before .loop .inv .1
 
 pub is-utf8-spec : {M : Type 1} → statement M
 is-utf8-spec =
@@ -68,12 +72,13 @@ is-utf8-spec =
     highest-requires
     returns
     loop-holds
+    next-place-requires
+    returns-2
     shared-slice-read-take
     take-requires
     enum-known-next
     enum-told
-    returns-2
+    returns-3
     add-i
     loop-less
-    loop-again
-    returns-3)
+    loop-again)
