@@ -10,6 +10,7 @@ ghost use Rattle.table.specs.Outcome.{Done};
 ghost use mathlib.Core.List.{List};
 ghost use Prim.Native.Nat.{ℕ};
 ghost use Rattle.lookup.specs.Ahead.{Led};
+use book::bytes::left_at;
 use book::index::place;
 use book::types::bound;
 use book::types::element;
@@ -50,14 +51,24 @@ pub fn is_mutable(book: &[u8], at: usize) -> bool
     extensibility(book, at) == 2
 }
 
-// Whether the type is a structure, Final or Appendable.
-pub fn is_final(book: &[u8], at: usize) -> bool
+fn final_by(book: &[u8], at: usize) -> bool
     ensures { λ r. ⌜ r ≡ isStructure false (typeAt (now (book .entry)) at) ⌝ }
 {
     if kind_at(book, at) != 22 {
         return false;
     }
     !is_mutable(book, at)
+}
+
+// Whether the type is a structure, Final or Appendable. That its bytes are there is asked once for the compiler, which then leaves it out for
+// each of them.
+pub fn is_final(book: &[u8], at: usize) -> bool
+    ensures { λ r. ⌜ r ≡ isStructure false (typeAt (now (book .entry)) at) ⌝ }
+{
+    if left_at(book, at) < 10 {
+        return final_by(book, at);
+    }
+    final_by(book, at)
 }
 
 // Whether it is a Mutable structure.

@@ -1,6 +1,6 @@
 -- Laws of what stands before contents. Assumes nothing.
-use Prim.Native.Nat.{ℕ}
-use mathlib.Core.Path.{_≡_, sym, ap, _∙_}
+use Prim.Native.Nat.{ℕ, _+_, _≤_}
+use mathlib.Core.Path.{_≡_, refl, sym, ap, _∙_}
 use mathlib.Core.Bool.{Bool, true, false}
 use mathlib.Core.List.{List}
 use Rattle.wire.specs.declared.cursor.Cursor.{Cursor}
@@ -12,7 +12,10 @@ use Rattle.wire.specs.declared.settings.Version.{Version}
 use Rattle.wire.specs.declared.settings.Version.the-variants.{Xcdr1, Xcdr2}
 use Rattle.wire.specs.declared.number.Number.{Number}
 use Rattle.wire.specs.declared.number.Number.the-variants as number
-use Rattle.wire.specs.Number.{ReadIs}
+use lib.ListN.{length}
+use Rattle.wire.specs.Place.{cursorAt, alignmentOf, paddingOf}
+use Rattle.wire.specs.Number.{numberAt, readNumber, ReadIs}
+use Rattle.wire.proofs.Numbers.{read-there}
 use Rattle.values.specs.Header.{pastNumber, dheaderBy, afterDheader, placeReached, unheardDheader, listStart, countAt, countFrom}
 
 module _ (s : List ℕ) (set : Settings) (c : Cursor) where
@@ -20,14 +23,23 @@ module _ (s : List ℕ) (set : Settings) (c : Cursor) where
   unfolding afterDheader dheaderBy
   dheader-none e = rw e
 
-  module _ (v : set .version ≡ Xcdr2) (g : Number) (is : ReadIs s set c 4 g) where
-    pub dheader-past : (n : ℕ) (d : Cursor) → g ≡ number.Got n d → place.At d ≡ afterDheader s set c
-    unfolding afterDheader dheaderBy pastNumber
-    dheader-past n d e = sym (ap (λ (y : Version). dheaderBy y s set c) v ∙ ap pastNumber (sym (is .is) ∙ e))
+  -- past a number of four bytes: all there, read, or short
+  pub four-there : (q : ℕ) → (q + 4 ≤ length s → q ≡ c .pos + paddingOf c (alignmentOf (set .version) 4)) → q + 4 ≤ length s → (d : Cursor) → d ≡ cursorAt (q + 4) (c .origin) → place.At d ≡ pastNumber (readNumber s set c 4)
+  unfolding pastNumber
+  four-there q starts h d e = sym (ap pastNumber (read-there s set c 4 q (numberAt (set .order) 0 s q 4) (starts h) h refl) ∙ ap place.At (sym e))
 
-    pub dheader-short : (x : Shortage) → g ≡ number.Short x → place.Short x ≡ afterDheader s set c
-    unfolding afterDheader dheaderBy pastNumber
-    dheader-short x e = sym (ap (λ (y : Version). dheaderBy y s set c) v ∙ ap pastNumber (sym (is .is) ∙ e))
+  module _ (g : Number) (is : ReadIs s set c 4 g) where
+    pub four-past : (n : ℕ) (d : Cursor) → g ≡ number.Got n d → place.At d ≡ pastNumber (readNumber s set c 4)
+    unfolding pastNumber
+    four-past n d e = sym (ap pastNumber (sym (is .is) ∙ e))
+
+    pub four-short : (x : Shortage) → g ≡ number.Short x → place.Short x ≡ pastNumber (readNumber s set c 4)
+    unfolding pastNumber
+    four-short x e = sym (ap pastNumber (sym (is .is) ∙ e))
+
+  pub dheader-past : set .version ≡ Xcdr2 → (r : Place) → r ≡ pastNumber (readNumber s set c 4) → r ≡ afterDheader s set c
+  unfolding afterDheader dheaderBy
+  dheader-past v r e = e ∙ sym (ap (λ (y : Version). dheaderBy y s set c) v)
 
   module _ (r : Place) (is : r ≡ afterDheader s set c) where
     pub unheard-past : (d : Cursor) → r ≡ place.At d → d ≡ unheardDheader s set c

@@ -1,11 +1,28 @@
 // What stands before the contents of a list, and of an Appendable or Mutable value.
 ghost use mathlib.Core.Path.{_≡_};
-ghost use Rattle.values.specs.Header.{afterDheader, unheardDheader, listStart, countFrom};
+ghost use Rattle.wire.specs.Number.{readNumber};
+ghost use Rattle.values.specs.Header.{pastNumber, afterDheader, unheardDheader, listStart, countFrom};
 use wire::cursor::Cursor;
 use wire::cursor::Place;
 use wire::number::Number;
 use wire::settings::Settings;
 use wire::settings::Version;
+
+// Past a number of four bytes.
+fn past_four(s: &[u8], set: Settings, at: Cursor) -> Place
+    ensures { λ r. ⌜ r ≡ pastNumber (readNumber (now (s .entry)) set at 4) ⌝ }
+{
+    let version = set.version;
+    let q = at.start(s, version, 4);
+    // Most are there, and to know where they end their value is not needed.
+    if q + 4 <= s.len() {
+        return Place::At(Cursor::new(q + 4, at.origin));
+    }
+    match wire::number::read_number(s, set, at, 4) {
+        Number::Got(_, c) => Place::At(c),
+        Number::Short(x) => Place::Short(x),
+    }
+}
 
 // Past a DHEADER, which XCDR2 alone has, and whose value is ignored.
 pub fn after_dheader(s: &[u8], set: Settings, at: Cursor) -> Place
@@ -14,10 +31,7 @@ pub fn after_dheader(s: &[u8], set: Settings, at: Cursor) -> Place
     let version = set.version;
     match version {
         Version::Xcdr1 => Place::At(at),
-        Version::Xcdr2 => match wire::number::read_number(s, set, at, 4) {
-            Number::Got(_, c) => Place::At(c),
-            Number::Short(x) => Place::Short(x),
-        },
+        Version::Xcdr2 => past_four(s, set, at),
     }
 }
 

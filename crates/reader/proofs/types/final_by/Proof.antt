@@ -1,9 +1,9 @@
 use Rattle.reader.proofs.Asked.{structure-not, structure-final}
 use borrow.Author.Needs.{needs}
-use Rattle.reader.proofs.types.is_final.Statement.{statement}
-use Rattle.reader.proofs.types.is_final.Tie as tie
-use Rattle.reader.proofs.types.is_final.Reads as reads
-use Rattle.reader.proofs.types.is_final.Lts as lts
+use Rattle.reader.proofs.types.final_by.Statement.{statement}
+use Rattle.reader.proofs.types.final_by.Tie as tie
+use Rattle.reader.proofs.types.final_by.Reads as reads
+use Rattle.reader.proofs.types.final_by.Lts as lts
 use Rattle.reader.proofs.types.is_mutable.Reads as is-mutable-reads
 use Rattle.reader.proofs.types.kind_at.Reads as kind-at-reads
 
@@ -19,5 +19,5 @@ is-mutable-requires c κs = search needs
 returns-2 : tie.Need-returns-2
 returns-2 c = search (needs, structure-not, structure-final)
 
-pub is-final-spec : {M : Type 1} → statement M
-is-final-spec = tie.close (tie.spec kind-at-requires returns is-mutable-requires returns-2)
+pub final-by-spec : {M : Type 1} → statement M
+final-by-spec = tie.close (tie.spec kind-at-requires returns is-mutable-requires returns-2)
