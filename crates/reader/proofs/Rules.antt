@@ -25,7 +25,7 @@ pub ruleset option-laws = (optional-looked, optional-short, optional-bad, option
 
 pub ruleset fmember-laws = (fmember-optional, fmember-value, fmember-structure)
 
-pub ruleset fmembers-laws = (fmembers-start, fmembers-turn, fmembers-ended, fmembers-short, fmembers-refused, fmembers-quick, fmembers-next, fmembers-end)
+pub ruleset frun-laws = (fmembers-start, fmembers-turn, fmembers-ended, fmembers-short, fmembers-refused, fmembers-quick, fmembers-next, fmembers-end)
 
 pub ruleset fstruct-laws = (several-start, several-end)
 
@@ -33,7 +33,7 @@ pub ruleset mstruct-laws = (several-start, several-end)
 
 pub ruleset mmembers-laws = (mmembers-none, mmembers-short, mmembers-aligned, aligned-again)
 
-pub ruleset looked-laws = (looked-start, row-next)
+pub ruleset mrun-laws = (looked-start, row-next)
 
 pub ruleset chosen-laws = (fmember-optional, fmember-value, selected-absent, selected-unfit, selected-none, selected-looked, selected-plain)
 

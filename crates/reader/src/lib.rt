@@ -142,7 +142,7 @@ pub fn fstruct(
         }
         match types::contents_at(book, s, set, at, Cursor { pos, origin }) {
             Place::Short(x) => return Out::Short(x),
-            Place::At(d) => match fmembers(book, index, s, set, t, at, d, m + 1, depth) {
+            Place::At(d) => match frun(book, index, s, set, t, at, d, m + 1, depth) {
                 Out::Short(x) => return Out::Short(x),
                 Out::Refused(why) => return Out::Refused(why),
                 Out::Read(e, k) => {
@@ -172,7 +172,7 @@ fn structure(id: u64, ty: usize, beneath: usize) -> Row
 }
 
 // Serialization rule 17: the members of a Final or Appendable structure. Too few bytes may end it as read.
-pub fn fmembers(
+pub fn frun(
     book: &[u8],
     index: &[u32],
     s: &[u8],
@@ -287,13 +287,13 @@ pub fn mmembers(
     }
     match c.align(s, version, 4) {
         Place::Short(x) => Out::Short(x),
-        Place::At(back) => looked(book, index, s, set, t, at, end, back, n, depth),
+        Place::At(back) => mrun(book, index, s, set, t, at, end, back, n, depth),
     }
 }
 
 // Each member by its lookup, from the place that every lookup comes back to. Where members stand in the order of their ids, the next
 // header is the one that is wanted.
-pub fn looked(
+pub fn mrun(
     book: &[u8],
     index: &[u32],
     s: &[u8],

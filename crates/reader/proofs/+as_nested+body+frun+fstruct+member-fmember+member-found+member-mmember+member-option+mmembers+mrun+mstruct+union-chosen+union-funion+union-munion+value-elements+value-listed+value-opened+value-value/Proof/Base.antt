@@ -6,12 +6,10 @@ use Rattle.reader.proofs.as_nested.Reads as as-nested
 use Rattle.reader.proofs.as_nested.Kinds as as-nested-kinds
 use Rattle.reader.proofs.body.Reads as body
 use Rattle.reader.proofs.body.Kinds as body-kinds
-use Rattle.reader.proofs.fmembers.Reads as fmembers
-use Rattle.reader.proofs.fmembers.Kinds as fmembers-kinds
+use Rattle.reader.proofs.frun.Reads as frun
+use Rattle.reader.proofs.frun.Kinds as frun-kinds
 use Rattle.reader.proofs.fstruct.Reads as fstruct
 use Rattle.reader.proofs.fstruct.Kinds as fstruct-kinds
-use Rattle.reader.proofs.looked.Reads as looked
-use Rattle.reader.proofs.looked.Kinds as looked-kinds
 use Rattle.reader.proofs.member.fmember.Reads as member·fmember
 use Rattle.reader.proofs.member.fmember.Kinds as member·fmember-kinds
 use Rattle.reader.proofs.member.found.Reads as member·found
@@ -22,6 +20,8 @@ use Rattle.reader.proofs.member.option.Reads as member·option
 use Rattle.reader.proofs.member.option.Kinds as member·option-kinds
 use Rattle.reader.proofs.mmembers.Reads as mmembers
 use Rattle.reader.proofs.mmembers.Kinds as mmembers-kinds
+use Rattle.reader.proofs.mrun.Reads as mrun
+use Rattle.reader.proofs.mrun.Kinds as mrun-kinds
 use Rattle.reader.proofs.mstruct.Reads as mstruct
 use Rattle.reader.proofs.mstruct.Kinds as mstruct-kinds
 use Rattle.reader.proofs.union.chosen.Reads as union·chosen
@@ -45,14 +45,11 @@ abbrev pub μ-as-nested : Measures 4 as-nested-kinds.ps ℕ
 abbrev pub μ-body : Measures 4 body-kinds.ps ℕ
 μ-body κs a = 12 * a .1 .1 .1 .1 .1 .1 .1 .1 .0 + 11
 
-abbrev pub μ-fmembers : Measures 4 fmembers-kinds.ps ℕ
-μ-fmembers κs a = 12 * a .1 .1 .1 .1 .1 .1 .1 .1 .0 + 9
+abbrev pub μ-frun : Measures 4 frun-kinds.ps ℕ
+μ-frun κs a = 12 * a .1 .1 .1 .1 .1 .1 .1 .1 .0 + 9
 
 abbrev pub μ-fstruct : Measures 4 fstruct-kinds.ps ℕ
 μ-fstruct κs a = 12 * a .1 .1 .1 .1 .1 .1 .1 .1 .1 .1 .1 .0 + 10
-
-abbrev pub μ-looked : Measures 4 looked-kinds.ps ℕ
-μ-looked κs a = 12 * a .1 .1 .1 .1 .1 .1 .1 .1 .1 .0 + 9
 
 abbrev pub μ-member·fmember : Measures 4 member·fmember-kinds.ps ℕ
 μ-member·fmember κs a = 12 * a .1 .1 .1 .1 .1 .1 .1 .1 .0 + 8
@@ -68,6 +65,9 @@ abbrev pub μ-member·option : Measures 4 member·option-kinds.ps ℕ
 
 abbrev pub μ-mmembers : Measures 4 mmembers-kinds.ps ℕ
 μ-mmembers κs a = 12 * a .1 .1 .1 .1 .1 .1 .1 .1 .1 .0 + 10
+
+abbrev pub μ-mrun : Measures 4 mrun-kinds.ps ℕ
+μ-mrun κs a = 12 * a .1 .1 .1 .1 .1 .1 .1 .1 .1 .0 + 9
 
 abbrev pub μ-mstruct : Measures 4 mstruct-kinds.ps ℕ
 μ-mstruct κs a = 12 * a .1 .1 .1 .1 .1 .1 .1 .1 .1 .1 .1 .0 + 11
@@ -106,24 +106,17 @@ body-at t = and 4 body-kinds.ps (is 4 body-kinds.ps μ-body t) body.Pre
 abbrev pub body-below : ℕ → In 4 body-kinds.ps
 body-below t = and 4 body-kinds.ps (falls 4 body-kinds.ps _<_ μ-body t) body.Pre
 
-abbrev pub fmembers-at : ℕ → In 4 fmembers-kinds.ps
-fmembers-at t = and 4 fmembers-kinds.ps (is 4 fmembers-kinds.ps μ-fmembers t) fmembers.Pre
+abbrev pub frun-at : ℕ → In 4 frun-kinds.ps
+frun-at t = and 4 frun-kinds.ps (is 4 frun-kinds.ps μ-frun t) frun.Pre
 
-abbrev pub fmembers-below : ℕ → In 4 fmembers-kinds.ps
-fmembers-below t =
-    and 4 fmembers-kinds.ps (falls 4 fmembers-kinds.ps _<_ μ-fmembers t) fmembers.Pre
+abbrev pub frun-below : ℕ → In 4 frun-kinds.ps
+frun-below t = and 4 frun-kinds.ps (falls 4 frun-kinds.ps _<_ μ-frun t) frun.Pre
 
 abbrev pub fstruct-at : ℕ → In 4 fstruct-kinds.ps
 fstruct-at t = and 4 fstruct-kinds.ps (is 4 fstruct-kinds.ps μ-fstruct t) fstruct.Pre
 
 abbrev pub fstruct-below : ℕ → In 4 fstruct-kinds.ps
 fstruct-below t = and 4 fstruct-kinds.ps (falls 4 fstruct-kinds.ps _<_ μ-fstruct t) fstruct.Pre
-
-abbrev pub looked-at : ℕ → In 4 looked-kinds.ps
-looked-at t = and 4 looked-kinds.ps (is 4 looked-kinds.ps μ-looked t) looked.Pre
-
-abbrev pub looked-below : ℕ → In 4 looked-kinds.ps
-looked-below t = and 4 looked-kinds.ps (falls 4 looked-kinds.ps _<_ μ-looked t) looked.Pre
 
 abbrev pub member·fmember-at : ℕ → In 4 member·fmember-kinds.ps
 member·fmember-at t =
@@ -187,6 +180,12 @@ mmembers-at t = and 4 mmembers-kinds.ps (is 4 mmembers-kinds.ps μ-mmembers t) m
 abbrev pub mmembers-below : ℕ → In 4 mmembers-kinds.ps
 mmembers-below t =
     and 4 mmembers-kinds.ps (falls 4 mmembers-kinds.ps _<_ μ-mmembers t) mmembers.Pre
+
+abbrev pub mrun-at : ℕ → In 4 mrun-kinds.ps
+mrun-at t = and 4 mrun-kinds.ps (is 4 mrun-kinds.ps μ-mrun t) mrun.Pre
+
+abbrev pub mrun-below : ℕ → In 4 mrun-kinds.ps
+mrun-below t = and 4 mrun-kinds.ps (falls 4 mrun-kinds.ps _<_ μ-mrun t) mrun.Pre
 
 abbrev pub mstruct-at : ℕ → In 4 mstruct-kinds.ps
 mstruct-at t = and 4 mstruct-kinds.ps (is 4 mstruct-kinds.ps μ-mstruct t) mstruct.Pre
