@@ -24,36 +24,36 @@ E t = (place-reads.Asked, place-reads.Learnt, kind-at-reads.Asked, kind-at-reads
 pub closed : (t : ℕ) {M : Type 1} → lts.Closed (E t) (as-nested-at t) as-nested.Post M
 closed t =
     lts.spec (E t) (as-nested-at t) as-nested.Post
-    (λ c κs. search (needs, as-nested-laws)) -- place-requires
-    (λ c κs. search (needs, as-nested-laws)) -- kind-at-requires
-    (λ c κs. search (needs, as-nested-laws)) -- opens-requires
-    (λ c. search (needs, as-nested-laws)) -- returns
-    (λ c. search (needs, as-nested-laws)) -- returns-2
-    (λ c κs. search (needs, as-nested-laws)) -- is-mutable-requires
-    (λ c. search (needs, as-nested-laws)) -- sub-mstruct
-    (λ c κs. search (needs, as-nested-laws)) -- mstruct-requires
-    (λ c. search (needs, as-nested-laws)) -- same-length
-    (λ c. nested-structure _ _ _ _ _ _ _ _ (c .before .before .before .before .before .before .before .before .before .before .before .place .ensures) (flag-known _ _ (c .before .before .before .before .before .before .before .before .before .before .kind-at .ensures) (c .before .before .before .before .before .before .if3 .taken) _ _ (c .before .before .before .before .before .is-mutable .ensures) (c .before .before .before .before .if4 .taken)) (search needs) _ _ _ _ _ _ (c .before .before .mstruct .ensures)) -- returns-3
-    (λ c. search (needs, as-nested-laws)) -- sub-fstruct
-    (λ c κs. search (needs, as-nested-laws)) -- fstruct-requires
-    (λ c. search (needs, as-nested-laws)) -- same-length-2
-    (λ c. nested-structure _ _ _ _ _ _ _ _ (c .before .before .before .before .before .before .before .before .before .before .before .place .ensures) (flag-known _ _ (c .before .before .before .before .before .before .before .before .before .before .kind-at .ensures) (c .before .before .before .before .before .before .if3 .taken) _ _ (c .before .before .before .before .before .is-mutable .ensures) (c .before .before .before .before .if4 .left)) (search needs) _ _ _ _ _ _ (c .before .before .fstruct .ensures)) -- returns-4
-    (λ c κs. search (needs, as-nested-laws)) -- is-full-requires
-    (λ c. search (needs, as-nested-laws)) -- same-length-3
-    (λ c. search (needs, as-nested-laws)) -- returns-5
-    (λ c. row-next _ _ _ (c .before .before .is-full .ensures) (c .before .if5 .left) (c .before .before .before .before .before .before .before .before .before .before .before .before .before .before .good .1 .1 .1 .1 .0 .0)) -- add-body
-    (λ c. search (needs, as-nested-laws)) -- sub-body
-    (λ c κs. search (needs, as-nested-laws)) -- body-requires
-    (λ c. search (needs, as-nested-laws)) -- enum-known-d
-    (λ c. search (needs, as-nested-laws)) -- cast-t41
-    (λ c. search (needs, as-nested-laws)) -- sub-t43
-    (λ c. search (needs, as-nested-laws)) -- sub-t44
-    (λ c κs. place-kept _ _ _ _ _ _ (c .before .before .before .before .before .before .before .before .before .is-full .ensures) (c .before .before .before .before .before .before .before .before .if5 .left) (c .before .before .before .before .before .before .body .ensures)) -- put-row-requires
-    (λ c. search (needs, as-nested-laws)) -- enum-known-x
-    (λ c. search (needs, as-nested-laws)) -- enum-known-k
-    (λ c. search (needs, as-nested-laws)) -- same-length-4
-    (λ c. search (needs, as-nested-laws)) -- returns-6
-    (λ c. search (needs, as-nested-laws)) -- same-length-5
-    (λ c. search (needs, as-nested-laws)) -- returns-7
-    (λ c. search (needs, as-nested-laws)) -- same-length-6
-    (λ c. search (needs, as-nested-laws)) -- returns-8
+    (λ c κs. search (needs, as-nested-laws))  -- place-requires
+    (λ c κs. search (needs, as-nested-laws))  -- kind-at-requires
+    (λ c κs. search (needs, as-nested-laws))  -- opens-requires
+    (λ c. search (needs, as-nested-laws))  -- returns
+    (λ c. search (needs, as-nested-laws))  -- returns-2
+    (λ c κs. search (needs, as-nested-laws))  -- is-mutable-requires
+    (λ c. search (needs, as-nested-laws))  -- sub-mstruct
+    (λ c κs. search (needs, as-nested-laws))  -- mstruct-requires
+    (λ c. search (needs, as-nested-laws))  -- same-length
+    (λ c. nested-structure _ _ _ _ _ _ _ _ (c .before .before .before .before .before .before .before .before .before .before .before .place .ensures) (flag-known _ _ (c .before .before .before .before .before .before .before .before .before .before .kind-at .ensures) (c .before .before .before .before .before .before .if3 .taken) _ _ (c .before .before .before .before .before .is-mutable .ensures) (c .before .before .before .before .if4 .taken)) (search needs) _ _ _ _ _ _ (c .before .before .mstruct .ensures))  -- returns-3
+    (λ c. search (needs, as-nested-laws))  -- sub-fstruct
+    (λ c κs. search (needs, as-nested-laws))  -- fstruct-requires
+    (λ c. search (needs, as-nested-laws))  -- same-length-2
+    (λ c. nested-structure _ _ _ _ _ _ _ _ (c .before .before .before .before .before .before .before .before .before .before .before .place .ensures) (flag-known _ _ (c .before .before .before .before .before .before .before .before .before .before .kind-at .ensures) (c .before .before .before .before .before .before .if3 .taken) _ _ (c .before .before .before .before .before .is-mutable .ensures) (c .before .before .before .before .if4 .left)) (search needs) _ _ _ _ _ _ (c .before .before .fstruct .ensures))  -- returns-4
+    (λ c κs. search (needs, as-nested-laws))  -- is-full-requires
+    (λ c. search (needs, as-nested-laws))  -- same-length-3
+    (λ c. search (needs, as-nested-laws))  -- returns-5
+    (λ c. row-next _ _ _ (c .before .before .is-full .ensures) (c .before .if5 .left) (c .before .before .before .before .before .before .before .before .before .before .before .before .before .before .good .1 .1 .1 .1 .0 .0))  -- add-body
+    (λ c. search (needs, as-nested-laws))  -- sub-body
+    (λ c κs. search (needs, as-nested-laws))  -- body-requires
+    (λ c. search (needs, as-nested-laws))  -- enum-known-d
+    (λ c. search (needs, as-nested-laws))  -- cast-t41
+    (λ c. search (needs, as-nested-laws))  -- sub-t43
+    (λ c. search (needs, as-nested-laws))  -- sub-t44
+    (λ c κs. place-kept _ _ _ _ _ _ (c .before .before .before .before .before .before .before .before .before .is-full .ensures) (c .before .before .before .before .before .before .before .before .if5 .left) (c .before .before .before .before .before .before .body .ensures))  -- put-row-requires
+    (λ c. search (needs, as-nested-laws))  -- enum-known-x
+    (λ c. search (needs, as-nested-laws))  -- enum-known-k
+    (λ c. search (needs, as-nested-laws))  -- same-length-4
+    (λ c. search (needs, as-nested-laws))  -- returns-6
+    (λ c. search (needs, as-nested-laws))  -- same-length-5
+    (λ c. search (needs, as-nested-laws))  -- returns-7
+    (λ c. search (needs, as-nested-laws))  -- same-length-6
+    (λ c. search (needs, as-nested-laws))  -- returns-8

@@ -21,19 +21,19 @@ E t = (kind-at-reads.Asked, kind-at-reads.Learnt, base-at-reads.Asked, base-at-r
 pub closed : (t : ℕ) {M : Type 1} → lts.Closed (E t) (body-at t) body.Post M
 closed t =
     lts.spec (E t) (body-at t) body.Post
-    (λ c κs. search (needs, body-laws)) -- kind-at-requires
-    (λ c κs. search (needs, body-laws)) -- base-at-requires
-    (λ c κs. search (needs, body-laws)) -- enum-type-requires
-    (λ c. search (needs, body-laws)) -- same-length
-    (λ c. search (needs, body-laws)) -- returns
-    (λ c κs. search (needs, body-laws)) -- is-mutable-requires
-    (λ c κs. search (needs, body-laws)) -- munion-requires
-    (λ c. search (needs, body-laws)) -- same-length-2
-    (λ c. body-munion _ _ _ _ _ _ _ _ _ _ (c .before .before .before .before .before .before .before .kind-at .ensures) (c .before .before .before .before .before .before .if1 .left) _ (c .before .before .before .before .before .is-mutable .ensures) (c .before .before .before .before .if2 .taken) (λ e. c .before .before .before .before .before .before .before .before .before .before .before .before .pre .1 (sym (c .before .before .before .before .before .before .before .kind-at .ensures) ∙ e)) _ _ (c .before .before .munion .ensures)) -- returns-2
-    (λ c κs. search (needs, body-laws)) -- contents-at-requires
-    (λ c. search (needs, body-laws)) -- enum-known-x
-    (λ c. search (needs, body-laws)) -- enum-known-d
-    (λ c κs. search (needs, body-laws)) -- funion-requires
-    (λ c. search (needs, body-laws)) -- returns-3
-    (λ c. search (needs, body-laws)) -- same-length-3
-    (λ c. body-funion _ _ _ _ _ _ _ _ _ _ (c .before .before .before .before .before .before .before .before .before .before .before .kind-at .ensures) (c .before .before .before .before .before .before .before .before .before .before .if1 .left) _ (c .before .before .before .before .before .before .before .before .before .is-mutable .ensures) (c .before .before .before .before .before .before .before .before .if2 .left) _ (c .before .before .before .before .before .before .before .contents-at .ensures) _ (search needs) (λ e. c .before .before .before .before .before .before .before .before .before .before .before .before .before .before .before .before .pre .1 (sym (c .before .before .before .before .before .before .before .before .before .before .before .kind-at .ensures) ∙ e)) _ _ (c .before .before .funion .ensures)) -- returns-4
+    (λ c κs. search (needs, body-laws))  -- kind-at-requires
+    (λ c κs. search (needs, body-laws))  -- base-at-requires
+    (λ c κs. search (needs, body-laws))  -- enum-type-requires
+    (λ c. search (needs, body-laws))  -- same-length
+    (λ c. search (needs, body-laws))  -- returns
+    (λ c κs. search (needs, body-laws))  -- is-mutable-requires
+    (λ c κs. search (needs, body-laws))  -- munion-requires
+    (λ c. search (needs, body-laws))  -- same-length-2
+    (λ c. body-munion _ _ _ _ _ _ _ _ _ _ (c .before .before .before .before .before .before .before .kind-at .ensures) (c .before .before .before .before .before .before .if1 .left) _ (c .before .before .before .before .before .is-mutable .ensures) (c .before .before .before .before .if2 .taken) (λ e. c .before .before .before .before .before .before .before .before .before .before .before .before .pre .1 (sym (c .before .before .before .before .before .before .before .kind-at .ensures) ∙ e)) _ _ (c .before .before .munion .ensures))  -- returns-2
+    (λ c κs. search (needs, body-laws))  -- contents-at-requires
+    (λ c. search (needs, body-laws))  -- enum-known-x
+    (λ c. search (needs, body-laws))  -- enum-known-d
+    (λ c κs. search (needs, body-laws))  -- funion-requires
+    (λ c. search (needs, body-laws))  -- returns-3
+    (λ c. search (needs, body-laws))  -- same-length-3
+    (λ c. body-funion _ _ _ _ _ _ _ _ _ _ (c .before .before .before .before .before .before .before .before .before .before .before .kind-at .ensures) (c .before .before .before .before .before .before .before .before .before .before .if1 .left) _ (c .before .before .before .before .before .before .before .before .before .is-mutable .ensures) (c .before .before .before .before .before .before .before .before .if2 .left) _ (c .before .before .before .before .before .before .before .contents-at .ensures) _ (search needs) (λ e. c .before .before .before .before .before .before .before .before .before .before .before .before .before .before .before .before .pre .1 (sym (c .before .before .before .before .before .before .before .before .before .before .before .kind-at .ensures) ∙ e)) _ _ (c .before .before .funion .ensures))  -- returns-4

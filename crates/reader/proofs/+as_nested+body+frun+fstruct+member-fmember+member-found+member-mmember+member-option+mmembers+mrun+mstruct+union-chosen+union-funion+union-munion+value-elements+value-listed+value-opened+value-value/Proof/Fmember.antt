@@ -22,19 +22,19 @@ E t = (is-optional-reads.Asked, is-optional-reads.Learnt, member·option-below t
 pub closed : (t : ℕ) {M : Type 1} → lts.Closed (E t) (member·fmember-at t) member·fmember.Post M
 closed t =
     lts.spec (E t) (member·fmember-at t) member·fmember.Post
-    (λ c κs. search (needs, fmember-laws)) -- is-optional-requires
-    (λ c κs. search (needs, fmember-laws)) -- option-requires
-    (λ c. search (needs, fmember-laws)) -- same-length
-    (λ c. search (needs, fmember-laws)) -- returns
-    (λ c κs. search (needs, fmember-laws)) -- type-index-requires
-    (λ c κs. search (needs, fmember-laws)) -- place-requires
-    (λ c κs. search (needs, fmember-laws)) -- id-requires
-    (λ c. search (needs, fmember-laws)) -- cast-i
-    (λ c κs. search (needs, fmember-laws)) -- is-final-requires
-    (λ c. search (needs, fmember-laws)) -- sub-fstruct
-    (λ c κs. search (needs, fmember-laws)) -- fstruct-requires
-    (λ c. search (needs, fmember-laws)) -- same-length-2
-    (λ c. fmember-structure _ _ _ _ _ _ _ _ (c .before .before .before .before .before .before .before .before .place .ensures) (sym (c .before .before .before .before .before .before .is-final .ensures) ∙ c .before .before .before .before .before .if2 .taken) (c .before .before .before .before .if3 .taken) _ _ _ _ _ _ (c .before .before .before .before .before .before .before .before .before .type-index .ensures .0) (c .before .before .before .before .before .before .before .id .ensures) _ (c .before .before .fstruct .ensures) _ (c .before .before .before .before .before .before .before .before .before .before .before .is-optional .ensures) (c .before .before .before .before .before .before .before .before .before .before .if1 .left)) -- returns-2
-    (λ c κs. search (needs, fmember-laws)) -- value-requires
-    (λ c. search (needs, fmember-laws)) -- same-length-3
-    (λ c. search (needs, fmember-laws)) -- returns-3
+    (λ c κs. search (needs, fmember-laws))  -- is-optional-requires
+    (λ c κs. search (needs, fmember-laws))  -- option-requires
+    (λ c. search (needs, fmember-laws))  -- same-length
+    (λ c. search (needs, fmember-laws))  -- returns
+    (λ c κs. search (needs, fmember-laws))  -- type-index-requires
+    (λ c κs. search (needs, fmember-laws))  -- place-requires
+    (λ c κs. search (needs, fmember-laws))  -- id-requires
+    (λ c. search (needs, fmember-laws))  -- cast-i
+    (λ c κs. search (needs, fmember-laws))  -- is-final-requires
+    (λ c. search (needs, fmember-laws))  -- sub-fstruct
+    (λ c κs. search (needs, fmember-laws))  -- fstruct-requires
+    (λ c. search (needs, fmember-laws))  -- same-length-2
+    (λ c. fmember-structure _ _ _ _ _ _ _ _ (c .before .before .before .before .before .before .before .before .place .ensures) (sym (c .before .before .before .before .before .before .is-final .ensures) ∙ c .before .before .before .before .before .if2 .taken) (c .before .before .before .before .if3 .taken) _ _ _ _ _ _ (c .before .before .before .before .before .before .before .before .before .type-index .ensures .0) (c .before .before .before .before .before .before .before .id .ensures) _ (c .before .before .fstruct .ensures) _ (c .before .before .before .before .before .before .before .before .before .before .before .is-optional .ensures) (c .before .before .before .before .before .before .before .before .before .before .if1 .left))  -- returns-2
+    (λ c κs. search (needs, fmember-laws))  -- value-requires
+    (λ c. search (needs, fmember-laws))  -- same-length-3
+    (λ c. search (needs, fmember-laws))  -- returns-3

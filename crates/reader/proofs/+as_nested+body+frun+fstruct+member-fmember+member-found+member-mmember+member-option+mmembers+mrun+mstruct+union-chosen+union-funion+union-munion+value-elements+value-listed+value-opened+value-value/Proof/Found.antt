@@ -24,23 +24,23 @@ E t = (type-index-reads.Asked, type-index-reads.Learnt, place-reads.Asked, place
 pub closed : (t : ℕ) {M : Type 1} → lts.Closed (E t) (member·found-at t) member·found.Post M
 closed t =
     lts.spec (E t) (member·found-at t) member·found.Post
-    (λ c κs. search (needs, found-laws)) -- type-index-requires
-    (λ c κs. search (needs, found-laws)) -- place-requires
-    (λ c κs. search (needs, found-laws)) -- by-length-requires
-    (λ c κs. search (needs, found-laws)) -- element-count-requires
-    (λ c κs. search (needs, found-laws)) -- element-requires
-    (λ c κs. search (needs, found-laws)) -- id-requires
-    (λ c. search (needs, found-laws)) -- cast-elements
-    (λ c κs. search (needs, found-laws)) -- elements-requires
-    (λ c. search (needs, found-laws)) -- same-length
-    (λ c. search (needs, found-laws)) -- returns
-    (λ c κs. search (needs, found-laws)) -- id-requires-2
-    (λ c. search (needs, found-laws)) -- cast-i
-    (λ c κs. search (needs, found-laws)) -- is-mutable-structure-requires
-    (λ c. search (needs, found-laws)) -- sub-mstruct
-    (λ c κs. search (needs, found-laws)) -- mstruct-requires
-    (λ c. search (needs, found-laws)) -- same-length-2
-    (λ c. found-structure _ _ _ _ _ _ _ _ (c .before .before .before .before .before .before .before .before .before .before .place .ensures) (sym (c .before .before .before .before .before .before .is-mutable-structure .ensures) ∙ c .before .before .before .before .before .if2 .taken) (c .before .before .before .before .if3 .taken) _ _ _ _ _ _ (c .before .before .before .before .before .before .before .before .before .before .before .type-index .ensures .0) (c .before .before .before .before .before .before .before .id2 .ensures) _ (c .before .before .mstruct .ensures) _) -- returns-2
-    (λ c κs. search (needs, found-laws)) -- value-requires
-    (λ c. search (needs, found-laws)) -- same-length-3
-    (λ c. search (needs, found-laws)) -- returns-3
+    (λ c κs. search (needs, found-laws))  -- type-index-requires
+    (λ c κs. search (needs, found-laws))  -- place-requires
+    (λ c κs. search (needs, found-laws))  -- by-length-requires
+    (λ c κs. search (needs, found-laws))  -- element-count-requires
+    (λ c κs. search (needs, found-laws))  -- element-requires
+    (λ c κs. search (needs, found-laws))  -- id-requires
+    (λ c. search (needs, found-laws))  -- cast-elements
+    (λ c κs. search (needs, found-laws))  -- elements-requires
+    (λ c. search (needs, found-laws))  -- same-length
+    (λ c. search (needs, found-laws))  -- returns
+    (λ c κs. search (needs, found-laws))  -- id-requires-2
+    (λ c. search (needs, found-laws))  -- cast-i
+    (λ c κs. search (needs, found-laws))  -- is-mutable-structure-requires
+    (λ c. search (needs, found-laws))  -- sub-mstruct
+    (λ c κs. search (needs, found-laws))  -- mstruct-requires
+    (λ c. search (needs, found-laws))  -- same-length-2
+    (λ c. found-structure _ _ _ _ _ _ _ _ (c .before .before .before .before .before .before .before .before .before .before .place .ensures) (sym (c .before .before .before .before .before .before .is-mutable-structure .ensures) ∙ c .before .before .before .before .before .if2 .taken) (c .before .before .before .before .if3 .taken) _ _ _ _ _ _ (c .before .before .before .before .before .before .before .before .before .before .before .type-index .ensures .0) (c .before .before .before .before .before .before .before .id2 .ensures) _ (c .before .before .mstruct .ensures) _)  -- returns-2
+    (λ c κs. search (needs, found-laws))  -- value-requires
+    (λ c. search (needs, found-laws))  -- same-length-3
+    (λ c. search (needs, found-laws))  -- returns-3

@@ -28,26 +28,26 @@ abbrev μ-loop : lts.MeasureT-loop
 pub closed : (t : ℕ) {M : Type 1} → lts.Closed (E t) (frun-at t) frun.Post M
 closed t =
     lts.spec (E t) (frun-at t) frun.Post Inv-loop μ-loop
-    (λ c κs. search (needs, frun-laws)) -- members-requires
-    (λ c. search (needs, frun-laws)) -- loop-holds
-    (λ c κs. search (needs, frun-laws)) -- take-requires
-    (λ c. fmembers-next _ _ _ _ _ _ _ _ _ _ _ _ _ (c .before .before .before .before .before .before .before .loop .inv) _ _ (c .before .before .before .take .ensures) (c .if2 .taken) (c .before .before .before .before .before .before .before .before .before .before .before .before .before .good .1 .1 .1 .1 .0 .0)) -- add-m
-    (λ c κs. search (needs, frun-laws)) -- after-requires
-    (λ c. search (needs, frun-laws)) -- loop-less
-    (λ c. fmembers-quick _ _ _ _ _ _ _ _ _ _ _ _ _ (c .before .before .before .before .before .before .before .before .loop .inv) _ _ (c .before .before .before .before .take .ensures) (c .before .before .before .before .before .before .if1 .taken) (c .before .if2 .taken) _ (c .after .ensures)) -- loop-again
-    (λ c κs. search (needs, frun-laws)) -- fmember-requires
-    (λ c. search (needs, frun-laws)) -- enum-known-e
-    (λ c. search (needs, frun-laws)) -- enum-known-x
-    (λ c κs. search (needs, frun-laws)) -- absorbs-requires
-    (λ c. search (needs, frun-laws)) -- same-length
-    (λ c. fmembers-ended _ _ _ _ _ _ _ _ _ _ _ _ _ (c .before .before .before .before .before .before .before .before .before .before .before .before .before .before .before .before .before .loop .inv) _ _ (c .before .before .before .before .before .before .before .before .before .before .before .before .before .take .ensures) (c .before .before .before .before .before .before .before .before .before .before .if2 .left) (c .before .before .before .before .before .before .before .before .before .before .before .before .before .before .before .if1 .taken) _ _ (c .before .before .before .before .before .before .before .before .fmember .ensures) _ _ (c .before .before .before .before .x .given .1) (c .before .before .absorbs .ensures) (c .before .if3 .taken)) -- returns
-    (λ c. search (needs, frun-laws)) -- same-length-2
-    (λ c. fmembers-short _ _ _ _ _ _ _ _ _ _ _ _ _ (c .before .before .before .before .before .before .before .before .before .before .before .before .before .before .before .before .loop .inv) _ _ (c .before .before .before .before .before .before .before .before .before .before .before .before .take .ensures) (c .before .before .before .before .before .before .before .before .before .if2 .left) (c .before .before .before .before .before .before .before .before .before .before .before .before .before .before .if1 .taken) _ _ (c .before .before .before .before .before .before .before .fmember .ensures) _ _ (c .before .before .before .x .given .1) (c .before .absorbs .ensures) (c .if3 .left)) -- returns-2
-    (λ c. search (needs, frun-laws)) -- enum-known-why
-    (λ c. search (needs, frun-laws)) -- same-length-3
-    (λ c. fmembers-refused _ _ _ _ _ _ _ _ _ _ _ _ _ (c .before .before .before .before .before .before .before .before .before .before .before .before .before .before .loop .inv) _ _ (c .before .before .before .before .before .before .before .before .before .before .take .ensures) (c .before .before .before .before .before .before .before .if2 .left) (c .before .before .before .before .before .before .before .before .before .before .before .before .if1 .taken) _ _ (c .before .before .before .before .before .fmember .ensures) _ (search needs)) -- returns-3
-    (λ c κs. search (needs, frun-laws)) -- after-requires-2
-    (λ c. search (needs, frun-laws)) -- loop-less-2
-    (λ c. fmembers-turn _ _ _ _ _ _ _ _ _ _ _ _ _ (c .before .before .before .before .before .before .before .before .before .before .before .before .before .before .before .loop .inv) _ _ (c .before .before .before .before .before .before .before .before .before .before .before .take .ensures) (c .before .before .before .before .before .before .before .before .if2 .left) (c .before .before .before .before .before .before .before .before .before .before .before .before .before .if1 .taken) _ _ (c .before .before .before .before .before .before .fmember .ensures) _ _ _ (search needs) (c .after2 .ensures)) -- loop-again-2
-    (λ c. search (needs, frun-laws)) -- same-length-4
-    (λ c. fmembers-end _ _ _ _ _ _ _ _ _ _ _ _ _ (c .before .before .loop .inv) (c .if1 .left)) -- returns-4
+    (λ c κs. search (needs, frun-laws))  -- members-requires
+    (λ c. search (needs, frun-laws))  -- loop-holds
+    (λ c κs. search (needs, frun-laws))  -- take-requires
+    (λ c. fmembers-next _ _ _ _ _ _ _ _ _ _ _ _ _ (c .before .before .before .before .before .before .before .loop .inv) _ _ (c .before .before .before .take .ensures) (c .if2 .taken) (c .before .before .before .before .before .before .before .before .before .before .before .before .before .good .1 .1 .1 .1 .0 .0))  -- add-m
+    (λ c κs. search (needs, frun-laws))  -- after-requires
+    (λ c. search (needs, frun-laws))  -- loop-less
+    (λ c. fmembers-quick _ _ _ _ _ _ _ _ _ _ _ _ _ (c .before .before .before .before .before .before .before .before .loop .inv) _ _ (c .before .before .before .before .take .ensures) (c .before .before .before .before .before .before .if1 .taken) (c .before .if2 .taken) _ (c .after .ensures))  -- loop-again
+    (λ c κs. search (needs, frun-laws))  -- fmember-requires
+    (λ c. search (needs, frun-laws))  -- enum-known-e
+    (λ c. search (needs, frun-laws))  -- enum-known-x
+    (λ c κs. search (needs, frun-laws))  -- absorbs-requires
+    (λ c. search (needs, frun-laws))  -- same-length
+    (λ c. fmembers-ended _ _ _ _ _ _ _ _ _ _ _ _ _ (c .before .before .before .before .before .before .before .before .before .before .before .before .before .before .before .before .before .loop .inv) _ _ (c .before .before .before .before .before .before .before .before .before .before .before .before .before .take .ensures) (c .before .before .before .before .before .before .before .before .before .before .if2 .left) (c .before .before .before .before .before .before .before .before .before .before .before .before .before .before .before .if1 .taken) _ _ (c .before .before .before .before .before .before .before .before .fmember .ensures) _ _ (c .before .before .before .before .x .given .1) (c .before .before .absorbs .ensures) (c .before .if3 .taken))  -- returns
+    (λ c. search (needs, frun-laws))  -- same-length-2
+    (λ c. fmembers-short _ _ _ _ _ _ _ _ _ _ _ _ _ (c .before .before .before .before .before .before .before .before .before .before .before .before .before .before .before .before .loop .inv) _ _ (c .before .before .before .before .before .before .before .before .before .before .before .before .take .ensures) (c .before .before .before .before .before .before .before .before .before .if2 .left) (c .before .before .before .before .before .before .before .before .before .before .before .before .before .before .if1 .taken) _ _ (c .before .before .before .before .before .before .before .fmember .ensures) _ _ (c .before .before .before .x .given .1) (c .before .absorbs .ensures) (c .if3 .left))  -- returns-2
+    (λ c. search (needs, frun-laws))  -- enum-known-why
+    (λ c. search (needs, frun-laws))  -- same-length-3
+    (λ c. fmembers-refused _ _ _ _ _ _ _ _ _ _ _ _ _ (c .before .before .before .before .before .before .before .before .before .before .before .before .before .before .loop .inv) _ _ (c .before .before .before .before .before .before .before .before .before .before .take .ensures) (c .before .before .before .before .before .before .before .if2 .left) (c .before .before .before .before .before .before .before .before .before .before .before .before .if1 .taken) _ _ (c .before .before .before .before .before .fmember .ensures) _ (search needs))  -- returns-3
+    (λ c κs. search (needs, frun-laws))  -- after-requires-2
+    (λ c. search (needs, frun-laws))  -- loop-less-2
+    (λ c. fmembers-turn _ _ _ _ _ _ _ _ _ _ _ _ _ (c .before .before .before .before .before .before .before .before .before .before .before .before .before .before .before .loop .inv) _ _ (c .before .before .before .before .before .before .before .before .before .before .before .take .ensures) (c .before .before .before .before .before .before .before .before .if2 .left) (c .before .before .before .before .before .before .before .before .before .before .before .before .before .if1 .taken) _ _ (c .before .before .before .before .before .before .fmember .ensures) _ _ _ (search needs) (c .after2 .ensures))  -- loop-again-2
+    (λ c. search (needs, frun-laws))  -- same-length-4
+    (λ c. fmembers-end _ _ _ _ _ _ _ _ _ _ _ _ _ (c .before .before .loop .inv) (c .if1 .left))  -- returns-4

@@ -18,20 +18,20 @@ E t = (members-reads.Asked, members-reads.Learnt, type-index-reads.Asked, type-i
 pub closed : (t : ℕ) {M : Type 1} → lts.Closed (E t) (union·funion-at t) union·funion.Post M
 closed t =
     lts.spec (E t) (union·funion-at t) union·funion.Post
-    (λ c κs. search (needs, funion-laws)) -- members-requires
-    (λ c. search (needs, funion-laws)) -- returns
-    (λ c κs. search (needs, funion-laws)) -- type-index-requires
-    (λ c κs. search (needs, funion-laws)) -- id-requires
-    (λ c. search (needs, funion-laws)) -- cast-value
-    (λ c κs. search (needs, funion-laws)) -- value-requires
-    (λ c. search (needs, funion-laws)) -- enum-known-d
-    (λ c κs. search (needs, funion-laws)) -- discriminator-at-requires
-    (λ c κs. search (needs, funion-laws, c .before .before .before .before .before .before .before .before .before .before .before .before .before .before .before .before .before .before .before .pre)) -- chosen-requires
-    (λ c. search (needs, funion-laws)) -- enum-known-x
-    (λ c. search (needs, funion-laws)) -- enum-known-k
-    (λ c. search (needs, funion-laws)) -- same-length
-    (λ c. search (needs, funion-laws)) -- returns-2
-    (λ c. search (needs, funion-laws)) -- same-length-2
-    (λ c. search (needs, funion-laws)) -- returns-3
-    (λ c. search (needs, funion-laws)) -- same-length-3
-    (λ c. search (needs, funion-laws)) -- returns-4
+    (λ c κs. search (needs, funion-laws))  -- members-requires
+    (λ c. search (needs, funion-laws))  -- returns
+    (λ c κs. search (needs, funion-laws))  -- type-index-requires
+    (λ c κs. search (needs, funion-laws))  -- id-requires
+    (λ c. search (needs, funion-laws))  -- cast-value
+    (λ c κs. search (needs, funion-laws))  -- value-requires
+    (λ c. search (needs, funion-laws))  -- enum-known-d
+    (λ c κs. search (needs, funion-laws))  -- discriminator-at-requires
+    (λ c κs. search (needs, funion-laws, c .before .before .before .before .before .before .before .before .before .before .before .before .before .before .before .before .before .before .before .pre))  -- chosen-requires
+    (λ c. search (needs, funion-laws))  -- enum-known-x
+    (λ c. search (needs, funion-laws))  -- enum-known-k
+    (λ c. search (needs, funion-laws))  -- same-length
+    (λ c. search (needs, funion-laws))  -- returns-2
+    (λ c. search (needs, funion-laws))  -- same-length-2
+    (λ c. search (needs, funion-laws))  -- returns-3
+    (λ c. search (needs, funion-laws))  -- same-length-3
+    (λ c. search (needs, funion-laws))  -- returns-4

@@ -18,13 +18,13 @@ E t = (members-reads.Asked, members-reads.Learnt, ended-reads.Asked, ended-reads
 pub closed : (t : ℕ) {M : Type 1} → lts.Closed (E t) (mmembers-at t) mmembers.Post M
 closed t =
     lts.spec (E t) (mmembers-at t) mmembers.Post
-    (λ c κs. search (needs, mmembers-laws)) -- members-requires
-    (λ c κs. search (needs, mmembers-laws)) -- ended-requires
-    (λ c. mmembers-none _ _ _ _ _ _ _ _ _ _ _ (c .before .before .before .members .ensures) (c .before .if1 .taken) _ (c .ended .ensures)) -- returns
-    (λ c κs. search (needs, mmembers-laws)) -- align-requires
-    (λ c. search (needs, mmembers-laws)) -- enum-known-x
-    (λ c. search (needs, mmembers-laws)) -- enum-known-back
-    (λ c κs. (search (needs, mmembers-laws, c .before .before .before .before .before .before .before .before .before .before .before .before .pre), aligned-again _ _ _ _ (sym (c .before .before .before .before .align .ensures) ∙ (search needs)))) -- mrun-requires
-    (λ c. mmembers-short _ _ _ _ _ _ _ _ _ _ _ (c .before .before .before .before .before .before .members .ensures) (c .before .before .before .before .if1 .left) _ (c .before .before .before .align .ensures) _ (search needs)) -- returns-2
-    (λ c. search (needs, mmembers-laws)) -- same-length
-    (λ c. mmembers-aligned _ _ _ _ _ _ _ _ _ _ _ (c .before .before .before .before .before .before .before .before .before .before .members .ensures) (c .before .before .before .before .before .before .before .before .if1 .left) _ (c .before .before .before .before .before .before .before .align .ensures) _ (search needs) (aligned-again _ _ _ _ (sym (c .before .before .before .before .before .before .before .align .ensures) ∙ (search needs))) _ _ (c .before .before .mrun .ensures)) -- returns-3
+    (λ c κs. search (needs, mmembers-laws))  -- members-requires
+    (λ c κs. search (needs, mmembers-laws))  -- ended-requires
+    (λ c. mmembers-none _ _ _ _ _ _ _ _ _ _ _ (c .before .before .before .members .ensures) (c .before .if1 .taken) _ (c .ended .ensures))  -- returns
+    (λ c κs. search (needs, mmembers-laws))  -- align-requires
+    (λ c. search (needs, mmembers-laws))  -- enum-known-x
+    (λ c. search (needs, mmembers-laws))  -- enum-known-back
+    (λ c κs. (search (needs, mmembers-laws, c .before .before .before .before .before .before .before .before .before .before .before .before .pre), aligned-again _ _ _ _ (sym (c .before .before .before .before .align .ensures) ∙ (search needs))))  -- mrun-requires
+    (λ c. mmembers-short _ _ _ _ _ _ _ _ _ _ _ (c .before .before .before .before .before .before .members .ensures) (c .before .before .before .before .if1 .left) _ (c .before .before .before .align .ensures) _ (search needs))  -- returns-2
+    (λ c. search (needs, mmembers-laws))  -- same-length
+    (λ c. mmembers-aligned _ _ _ _ _ _ _ _ _ _ _ (c .before .before .before .before .before .before .before .before .before .before .members .ensures) (c .before .before .before .before .before .before .before .before .if1 .left) _ (c .before .before .before .before .before .before .before .align .ensures) _ (search needs) (aligned-again _ _ _ _ (sym (c .before .before .before .before .before .before .before .align .ensures) ∙ (search needs))) _ _ (c .before .before .mrun .ensures))  -- returns-3

@@ -34,40 +34,40 @@ abbrev μ-loop : lts.MeasureT-loop
 pub closed : (t : ℕ) {M : Type 1} → lts.Closed (E t) (mrun-at t) mrun.Post M
 closed t =
     lts.spec (E t) (mrun-at t) mrun.Post Inv-loop μ-loop
-    (λ c κs. search (needs, mrun-laws)) -- members-requires
-    (λ c. search (needs, mrun-laws)) -- loop-holds
-    (λ c κs. search (needs, mrun-laws)) -- id-requires
-    (λ c κs. search (needs, mrun-laws)) -- sought-requires
-    (λ c κs. search (needs, mrun-laws)) -- value-at-requires
-    (λ c κs. c .before .before .sought .ensures .small (c .before .if2 .taken)) -- onward-requires
-    (λ c κs. search (needs, mrun-laws)) -- take-found-requires
-    (λ c. looked-next _ _ _ _ _ _ _ _ _ _ _ _ _ _ _ (c .before .before .before .before .before .before .before .before .before .before .before .before .loop .inv) (c .before .before .before .before .before .before .before .before .before .before .before .before .before .before .before .before .before .before .pre .1) _ _ _ (c .before .before .before .before .before .before .before .before .before .id .ensures) (found-at _ _ _ _ _ _ _ (c .before .before .before .before .before .before .value-at .ensures) (c .before .before .before .before .before .before .before .before .sought .ensures .found _ (c .before .before .before .before .before .before .before .before .before .before .before .before .before .before .before .before .before .before .pre .1) (c .before .before .before .before .before .before .before .before .before .before .before .before .loop .inv .led) (c .before .before .before .before .before .before .before .if2 .taken))) _ _ (c .before .before .before .take-found .ensures) (c .if3 .taken) (c .before .before .before .before .before .before .before .before .before .before .before .before .before .before .before .before .before .before .good .1 .1 .1 .1 .0 .0)) -- add-m
-    (λ c κs. search (needs, mrun-laws)) -- after-requires
-    (λ c. fewer _ _ _ (c .before .before .before .before .before .before .before .before .before .before .before .if1 .taken) (c .after .ensures)) -- loop-less
-    (λ c. looked-quick _ _ _ _ _ _ _ _ _ _ _ _ _ _ _ (c .before .before .before .before .before .before .before .before .before .before .before .before .before .loop .inv) (c .before .before .before .before .before .before .before .before .before .before .before .before .before .before .before .before .before .before .before .pre .1) _ _ _ (c .before .before .before .before .before .before .before .before .before .before .id .ensures) (found-at _ _ _ _ _ _ _ (c .before .before .before .before .before .before .before .value-at .ensures) (c .before .before .before .before .before .before .before .before .before .sought .ensures .found _ (c .before .before .before .before .before .before .before .before .before .before .before .before .before .before .before .before .before .before .before .pre .1) (c .before .before .before .before .before .before .before .before .before .before .before .before .before .loop .inv .led) (c .before .before .before .before .before .before .before .before .if2 .taken))) _ _ (c .before .before .before .before .take-found .ensures) (c .before .before .before .before .before .before .before .before .before .before .before .if1 .taken) (c .before .if3 .taken) _ _ (c .after .ensures) (led-as _ _ _ _ _ _ (c .before .before .before .before .before .before .onward .ensures) (c .before .before .before .before .before .before .before .before .before .sought .ensures .on _ (c .before .before .before .before .before .before .before .before .before .before .before .before .before .loop .inv .led) (c .before .before .before .before .before .before .before .before .if2 .taken)))) -- loop-again
-    (λ c κs. search (needs, mrun-laws, c .before .before .before .before .before .before .before .before .before .before .before .before .before .before .before .before .before .before .before .pre .0)) -- found-requires
-    (λ c. search (needs, mrun-laws)) -- enum-known-k
-    (λ c κs. search (needs, mrun-laws)) -- after-requires-2
-    (λ c. fewer _ _ _ (c .before .before .before .before .before .before .before .before .before .before .before .before .before .before .before .before .before .before .if1 .taken) (c .after2 .ensures)) -- loop-less-2
-    (λ c. looked-found _ _ _ _ _ _ _ _ _ _ _ _ _ _ _ (c .before .before .before .before .before .before .before .before .before .before .before .before .before .before .before .before .before .before .before .before .loop .inv) (c .before .before .before .before .before .before .before .before .before .before .before .before .before .before .before .before .before .before .before .before .before .before .before .before .before .before .pre .1) _ _ _ (c .before .before .before .before .before .before .before .before .before .before .before .before .before .before .before .before .before .id .ensures) (found-at _ _ _ _ _ _ _ (c .before .before .before .before .before .before .before .before .before .before .before .before .before .before .value-at .ensures) (c .before .before .before .before .before .before .before .before .before .before .before .before .before .before .before .before .sought .ensures .found _ (c .before .before .before .before .before .before .before .before .before .before .before .before .before .before .before .before .before .before .before .before .before .before .before .before .before .before .pre .1) (c .before .before .before .before .before .before .before .before .before .before .before .before .before .before .before .before .before .before .before .before .loop .inv .led) (c .before .before .before .before .before .before .before .before .before .before .before .before .before .before .before .if2 .taken))) _ _ (c .before .before .before .before .before .before .before .before .before .before .before .take-found .ensures) (c .before .before .before .before .before .before .before .before .if3 .left) (c .before .before .before .before .before .before .before .before .before .before .before .before .before .before .before .before .before .before .if1 .taken) _ _ (c .before .before .before .before .before .before .found .ensures) _ _ _ _ (c .before .before .k .given .1) (c .after2 .ensures) (led-as _ _ _ _ _ _ (c .before .before .before .before .before .before .before .before .before .before .before .before .before .onward .ensures) (c .before .before .before .before .before .before .before .before .before .before .before .before .before .before .before .before .sought .ensures .on _ (c .before .before .before .before .before .before .before .before .before .before .before .before .before .before .before .before .before .before .before .before .loop .inv .led) (c .before .before .before .before .before .before .before .before .before .before .before .before .before .before .before .if2 .taken)))) -- loop-again-2
-    (λ c. search (needs, mrun-laws)) -- enum-known-x
-    (λ c κs. search (needs, mrun-laws)) -- back-to-requires
-    (λ c. (looked-fell _ _ _ _ _ _ _ _ _ _ _ _ _ _ _ (c .before .before .before .before .before .before .before .before .before .before .before .before .before .before .before .before .before .before .before .before .loop .inv) (c .before .before .before .before .before .before .before .before .before .before .before .before .before .before .before .before .before .before .before .before .before .before .before .before .before .before .pre .1) _ _ _ (c .before .before .before .before .before .before .before .before .before .before .before .before .before .before .before .before .before .id .ensures) (found-at _ _ _ _ _ _ _ (c .before .before .before .before .before .before .before .before .before .before .before .before .before .before .value-at .ensures) (c .before .before .before .before .before .before .before .before .before .before .before .before .before .before .before .before .sought .ensures .found _ (c .before .before .before .before .before .before .before .before .before .before .before .before .before .before .before .before .before .before .before .before .before .before .before .before .before .before .pre .1) (c .before .before .before .before .before .before .before .before .before .before .before .before .before .before .before .before .before .before .before .before .loop .inv .led) (c .before .before .before .before .before .before .before .before .before .before .before .before .before .before .before .if2 .taken))) _ _ (c .before .before .before .before .before .before .before .before .before .before .before .take-found .ensures) (c .before .before .before .before .before .before .before .before .if3 .left) (c .before .before .before .before .before .before .before .before .before .before .before .before .before .before .before .before .before .before .if1 .taken) _ _ (c .before .before .before .before .before .before .found .ensures) _ _ (c .before .before .x .given .1) (c .back-to .ensures)) .table .long) -- same-length
-    (λ c. looked-fell _ _ _ _ _ _ _ _ _ _ _ _ _ _ _ (c .before .before .before .before .before .before .before .before .before .before .before .before .before .before .before .before .before .before .before .before .loop .inv) (c .before .before .before .before .before .before .before .before .before .before .before .before .before .before .before .before .before .before .before .before .before .before .before .before .before .before .pre .1) _ _ _ (c .before .before .before .before .before .before .before .before .before .before .before .before .before .before .before .before .before .id .ensures) (found-at _ _ _ _ _ _ _ (c .before .before .before .before .before .before .before .before .before .before .before .before .before .before .value-at .ensures) (c .before .before .before .before .before .before .before .before .before .before .before .before .before .before .before .before .sought .ensures .found _ (c .before .before .before .before .before .before .before .before .before .before .before .before .before .before .before .before .before .before .before .before .before .before .before .before .before .before .pre .1) (c .before .before .before .before .before .before .before .before .before .before .before .before .before .before .before .before .before .before .before .before .loop .inv .led) (c .before .before .before .before .before .before .before .before .before .before .before .before .before .before .before .if2 .taken))) _ _ (c .before .before .before .before .before .before .before .before .before .before .before .take-found .ensures) (c .before .before .before .before .before .before .before .before .if3 .left) (c .before .before .before .before .before .before .before .before .before .before .before .before .before .before .before .before .before .before .if1 .taken) _ _ (c .before .before .before .before .before .before .found .ensures) _ _ (c .before .before .x .given .1) (c .back-to .ensures)) -- returns
-    (λ c. search (needs, mrun-laws)) -- enum-known-k-2
-    (λ c. (looked-unfit _ _ _ _ _ _ _ _ _ _ _ _ _ _ _ (c .before .before .before .before .before .before .before .before .before .before .before .before .before .before .before .before .before .before .before .loop .inv) (c .before .before .before .before .before .before .before .before .before .before .before .before .before .before .before .before .before .before .before .before .before .before .before .before .before .pre .1) _ _ _ (c .before .before .before .before .before .before .before .before .before .before .before .before .before .before .before .before .id .ensures) (found-at _ _ _ _ _ _ _ (c .before .before .before .before .before .before .before .before .before .before .before .before .before .value-at .ensures) (c .before .before .before .before .before .before .before .before .before .before .before .before .before .before .before .sought .ensures .found _ (c .before .before .before .before .before .before .before .before .before .before .before .before .before .before .before .before .before .before .before .before .before .before .before .before .before .pre .1) (c .before .before .before .before .before .before .before .before .before .before .before .before .before .before .before .before .before .before .before .loop .inv .led) (c .before .before .before .before .before .before .before .before .before .before .before .before .before .before .if2 .taken))) _ _ (c .before .before .before .before .before .before .before .before .before .before .take-found .ensures) (c .before .before .before .before .before .before .before .if3 .left) (c .before .before .before .before .before .before .before .before .before .before .before .before .before .before .before .before .before .if1 .taken) _ _ (c .before .before .before .before .before .found .ensures) _ (c .before .k2 .given .1)) .table .long) -- same-length-2
-    (λ c. looked-unfit _ _ _ _ _ _ _ _ _ _ _ _ _ _ _ (c .before .before .before .before .before .before .before .before .before .before .before .before .before .before .before .before .before .before .before .loop .inv) (c .before .before .before .before .before .before .before .before .before .before .before .before .before .before .before .before .before .before .before .before .before .before .before .before .before .pre .1) _ _ _ (c .before .before .before .before .before .before .before .before .before .before .before .before .before .before .before .before .id .ensures) (found-at _ _ _ _ _ _ _ (c .before .before .before .before .before .before .before .before .before .before .before .before .before .value-at .ensures) (c .before .before .before .before .before .before .before .before .before .before .before .before .before .before .before .sought .ensures .found _ (c .before .before .before .before .before .before .before .before .before .before .before .before .before .before .before .before .before .before .before .before .before .before .before .before .before .pre .1) (c .before .before .before .before .before .before .before .before .before .before .before .before .before .before .before .before .before .before .before .loop .inv .led) (c .before .before .before .before .before .before .before .before .before .before .before .before .before .before .if2 .taken))) _ _ (c .before .before .before .before .before .before .before .before .before .before .take-found .ensures) (c .before .before .before .before .before .before .before .if3 .left) (c .before .before .before .before .before .before .before .before .before .before .before .before .before .before .before .before .before .if1 .taken) _ _ (c .before .before .before .before .before .found .ensures) _ (c .before .k2 .given .1)) -- returns-2
-    (λ c κs. search (needs, mrun-laws, c .before .before .before .before .before .before .before .before .before .before .before .before .pre .0)) -- mmember-requires
-    (λ c. search (needs, mrun-laws)) -- enum-known-k-3
-    (λ c. search (needs, mrun-laws)) -- enum-known-x-2
-    (λ c. search (needs, mrun-laws)) -- same-length-3
-    (λ c. looked-short _ _ _ _ _ _ _ _ _ _ _ _ _ _ _ (c .before .before .before .before .before .before .before .before .before .before .before .before .loop .inv) (c .before .before .before .before .before .before .before .before .before .before .before .before .before .before .before .before .before .before .pre .1) (c .before .before .before .before .before .before .before .before .before .before .if1 .taken) _ _ (c .before .before .before .before .before .mmember .ensures) _ (c .before .x2 .given .1)) -- returns-3
-    (λ c. search (needs, mrun-laws)) -- enum-known-k-4
-    (λ c. search (needs, mrun-laws)) -- same-length-4
-    (λ c. looked-refused _ _ _ _ _ _ _ _ _ _ _ _ _ _ _ (c .before .before .before .before .before .before .before .before .before .before .before .before .loop .inv) (c .before .before .before .before .before .before .before .before .before .before .before .before .before .before .before .before .before .before .pre .1) (c .before .before .before .before .before .before .before .before .before .before .if1 .taken) _ _ (c .before .before .before .before .before .mmember .ensures) _ (c .before .k4 .given .1)) -- returns-4
-    (λ c κs. search (needs, mrun-laws)) -- after-requires-3
-    (λ c. fewer _ _ _ (c .before .before .before .before .before .before .before .before .before .before .before .if1 .taken) (c .after3 .ensures)) -- loop-less-3
-    (λ c. looked-turn _ _ _ _ _ _ _ _ _ _ _ _ _ _ _ (c .before .before .before .before .before .before .before .before .before .before .before .before .before .loop .inv) (c .before .before .before .before .before .before .before .before .before .before .before .before .before .before .before .before .before .before .before .pre .1) (c .before .before .before .before .before .before .before .before .before .before .before .if1 .taken) _ _ (c .before .before .before .before .before .before .mmember .ensures) _ _ _ (c .before .before .k3 .given .1) (c .after3 .ensures)) -- loop-again-3
-    (λ c κs. c .before .before .loop .inv .led) -- ended-from-requires
-    (λ c. search (needs, mrun-laws)) -- same-length-5
-    (λ c. looked-end _ _ _ _ _ _ _ _ _ _ _ _ _ _ _ (c .before .before .before .loop .inv) (c .before .before .before .before .before .before .before .before .before .pre .1) (c .before .if1 .left) _ (c .ended-from .ensures)) -- returns-5
+    (λ c κs. search (needs, mrun-laws))  -- members-requires
+    (λ c. search (needs, mrun-laws))  -- loop-holds
+    (λ c κs. search (needs, mrun-laws))  -- id-requires
+    (λ c κs. search (needs, mrun-laws))  -- sought-requires
+    (λ c κs. search (needs, mrun-laws))  -- value-at-requires
+    (λ c κs. c .before .before .sought .ensures .small (c .before .if2 .taken))  -- onward-requires
+    (λ c κs. search (needs, mrun-laws))  -- take-found-requires
+    (λ c. looked-next _ _ _ _ _ _ _ _ _ _ _ _ _ _ _ (c .before .before .before .before .before .before .before .before .before .before .before .before .loop .inv) (c .before .before .before .before .before .before .before .before .before .before .before .before .before .before .before .before .before .before .pre .1) _ _ _ (c .before .before .before .before .before .before .before .before .before .id .ensures) (found-at _ _ _ _ _ _ _ (c .before .before .before .before .before .before .value-at .ensures) (c .before .before .before .before .before .before .before .before .sought .ensures .found _ (c .before .before .before .before .before .before .before .before .before .before .before .before .before .before .before .before .before .before .pre .1) (c .before .before .before .before .before .before .before .before .before .before .before .before .loop .inv .led) (c .before .before .before .before .before .before .before .if2 .taken))) _ _ (c .before .before .before .take-found .ensures) (c .if3 .taken) (c .before .before .before .before .before .before .before .before .before .before .before .before .before .before .before .before .before .before .good .1 .1 .1 .1 .0 .0))  -- add-m
+    (λ c κs. search (needs, mrun-laws))  -- after-requires
+    (λ c. fewer _ _ _ (c .before .before .before .before .before .before .before .before .before .before .before .if1 .taken) (c .after .ensures))  -- loop-less
+    (λ c. looked-quick _ _ _ _ _ _ _ _ _ _ _ _ _ _ _ (c .before .before .before .before .before .before .before .before .before .before .before .before .before .loop .inv) (c .before .before .before .before .before .before .before .before .before .before .before .before .before .before .before .before .before .before .before .pre .1) _ _ _ (c .before .before .before .before .before .before .before .before .before .before .id .ensures) (found-at _ _ _ _ _ _ _ (c .before .before .before .before .before .before .before .value-at .ensures) (c .before .before .before .before .before .before .before .before .before .sought .ensures .found _ (c .before .before .before .before .before .before .before .before .before .before .before .before .before .before .before .before .before .before .before .pre .1) (c .before .before .before .before .before .before .before .before .before .before .before .before .before .loop .inv .led) (c .before .before .before .before .before .before .before .before .if2 .taken))) _ _ (c .before .before .before .before .take-found .ensures) (c .before .before .before .before .before .before .before .before .before .before .before .if1 .taken) (c .before .if3 .taken) _ _ (c .after .ensures) (led-as _ _ _ _ _ _ (c .before .before .before .before .before .before .onward .ensures) (c .before .before .before .before .before .before .before .before .before .sought .ensures .on _ (c .before .before .before .before .before .before .before .before .before .before .before .before .before .loop .inv .led) (c .before .before .before .before .before .before .before .before .if2 .taken))))  -- loop-again
+    (λ c κs. search (needs, mrun-laws, c .before .before .before .before .before .before .before .before .before .before .before .before .before .before .before .before .before .before .before .pre .0))  -- found-requires
+    (λ c. search (needs, mrun-laws))  -- enum-known-k
+    (λ c κs. search (needs, mrun-laws))  -- after-requires-2
+    (λ c. fewer _ _ _ (c .before .before .before .before .before .before .before .before .before .before .before .before .before .before .before .before .before .before .if1 .taken) (c .after2 .ensures))  -- loop-less-2
+    (λ c. looked-found _ _ _ _ _ _ _ _ _ _ _ _ _ _ _ (c .before .before .before .before .before .before .before .before .before .before .before .before .before .before .before .before .before .before .before .before .loop .inv) (c .before .before .before .before .before .before .before .before .before .before .before .before .before .before .before .before .before .before .before .before .before .before .before .before .before .before .pre .1) _ _ _ (c .before .before .before .before .before .before .before .before .before .before .before .before .before .before .before .before .before .id .ensures) (found-at _ _ _ _ _ _ _ (c .before .before .before .before .before .before .before .before .before .before .before .before .before .before .value-at .ensures) (c .before .before .before .before .before .before .before .before .before .before .before .before .before .before .before .before .sought .ensures .found _ (c .before .before .before .before .before .before .before .before .before .before .before .before .before .before .before .before .before .before .before .before .before .before .before .before .before .before .pre .1) (c .before .before .before .before .before .before .before .before .before .before .before .before .before .before .before .before .before .before .before .before .loop .inv .led) (c .before .before .before .before .before .before .before .before .before .before .before .before .before .before .before .if2 .taken))) _ _ (c .before .before .before .before .before .before .before .before .before .before .before .take-found .ensures) (c .before .before .before .before .before .before .before .before .if3 .left) (c .before .before .before .before .before .before .before .before .before .before .before .before .before .before .before .before .before .before .if1 .taken) _ _ (c .before .before .before .before .before .before .found .ensures) _ _ _ _ (c .before .before .k .given .1) (c .after2 .ensures) (led-as _ _ _ _ _ _ (c .before .before .before .before .before .before .before .before .before .before .before .before .before .onward .ensures) (c .before .before .before .before .before .before .before .before .before .before .before .before .before .before .before .before .sought .ensures .on _ (c .before .before .before .before .before .before .before .before .before .before .before .before .before .before .before .before .before .before .before .before .loop .inv .led) (c .before .before .before .before .before .before .before .before .before .before .before .before .before .before .before .if2 .taken))))  -- loop-again-2
+    (λ c. search (needs, mrun-laws))  -- enum-known-x
+    (λ c κs. search (needs, mrun-laws))  -- back-to-requires
+    (λ c. (looked-fell _ _ _ _ _ _ _ _ _ _ _ _ _ _ _ (c .before .before .before .before .before .before .before .before .before .before .before .before .before .before .before .before .before .before .before .before .loop .inv) (c .before .before .before .before .before .before .before .before .before .before .before .before .before .before .before .before .before .before .before .before .before .before .before .before .before .before .pre .1) _ _ _ (c .before .before .before .before .before .before .before .before .before .before .before .before .before .before .before .before .before .id .ensures) (found-at _ _ _ _ _ _ _ (c .before .before .before .before .before .before .before .before .before .before .before .before .before .before .value-at .ensures) (c .before .before .before .before .before .before .before .before .before .before .before .before .before .before .before .before .sought .ensures .found _ (c .before .before .before .before .before .before .before .before .before .before .before .before .before .before .before .before .before .before .before .before .before .before .before .before .before .before .pre .1) (c .before .before .before .before .before .before .before .before .before .before .before .before .before .before .before .before .before .before .before .before .loop .inv .led) (c .before .before .before .before .before .before .before .before .before .before .before .before .before .before .before .if2 .taken))) _ _ (c .before .before .before .before .before .before .before .before .before .before .before .take-found .ensures) (c .before .before .before .before .before .before .before .before .if3 .left) (c .before .before .before .before .before .before .before .before .before .before .before .before .before .before .before .before .before .before .if1 .taken) _ _ (c .before .before .before .before .before .before .found .ensures) _ _ (c .before .before .x .given .1) (c .back-to .ensures)) .table .long)  -- same-length
+    (λ c. looked-fell _ _ _ _ _ _ _ _ _ _ _ _ _ _ _ (c .before .before .before .before .before .before .before .before .before .before .before .before .before .before .before .before .before .before .before .before .loop .inv) (c .before .before .before .before .before .before .before .before .before .before .before .before .before .before .before .before .before .before .before .before .before .before .before .before .before .before .pre .1) _ _ _ (c .before .before .before .before .before .before .before .before .before .before .before .before .before .before .before .before .before .id .ensures) (found-at _ _ _ _ _ _ _ (c .before .before .before .before .before .before .before .before .before .before .before .before .before .before .value-at .ensures) (c .before .before .before .before .before .before .before .before .before .before .before .before .before .before .before .before .sought .ensures .found _ (c .before .before .before .before .before .before .before .before .before .before .before .before .before .before .before .before .before .before .before .before .before .before .before .before .before .before .pre .1) (c .before .before .before .before .before .before .before .before .before .before .before .before .before .before .before .before .before .before .before .before .loop .inv .led) (c .before .before .before .before .before .before .before .before .before .before .before .before .before .before .before .if2 .taken))) _ _ (c .before .before .before .before .before .before .before .before .before .before .before .take-found .ensures) (c .before .before .before .before .before .before .before .before .if3 .left) (c .before .before .before .before .before .before .before .before .before .before .before .before .before .before .before .before .before .before .if1 .taken) _ _ (c .before .before .before .before .before .before .found .ensures) _ _ (c .before .before .x .given .1) (c .back-to .ensures))  -- returns
+    (λ c. search (needs, mrun-laws))  -- enum-known-k-2
+    (λ c. (looked-unfit _ _ _ _ _ _ _ _ _ _ _ _ _ _ _ (c .before .before .before .before .before .before .before .before .before .before .before .before .before .before .before .before .before .before .before .loop .inv) (c .before .before .before .before .before .before .before .before .before .before .before .before .before .before .before .before .before .before .before .before .before .before .before .before .before .pre .1) _ _ _ (c .before .before .before .before .before .before .before .before .before .before .before .before .before .before .before .before .id .ensures) (found-at _ _ _ _ _ _ _ (c .before .before .before .before .before .before .before .before .before .before .before .before .before .value-at .ensures) (c .before .before .before .before .before .before .before .before .before .before .before .before .before .before .before .sought .ensures .found _ (c .before .before .before .before .before .before .before .before .before .before .before .before .before .before .before .before .before .before .before .before .before .before .before .before .before .pre .1) (c .before .before .before .before .before .before .before .before .before .before .before .before .before .before .before .before .before .before .before .loop .inv .led) (c .before .before .before .before .before .before .before .before .before .before .before .before .before .before .if2 .taken))) _ _ (c .before .before .before .before .before .before .before .before .before .before .take-found .ensures) (c .before .before .before .before .before .before .before .if3 .left) (c .before .before .before .before .before .before .before .before .before .before .before .before .before .before .before .before .before .if1 .taken) _ _ (c .before .before .before .before .before .found .ensures) _ (c .before .k2 .given .1)) .table .long)  -- same-length-2
+    (λ c. looked-unfit _ _ _ _ _ _ _ _ _ _ _ _ _ _ _ (c .before .before .before .before .before .before .before .before .before .before .before .before .before .before .before .before .before .before .before .loop .inv) (c .before .before .before .before .before .before .before .before .before .before .before .before .before .before .before .before .before .before .before .before .before .before .before .before .before .pre .1) _ _ _ (c .before .before .before .before .before .before .before .before .before .before .before .before .before .before .before .before .id .ensures) (found-at _ _ _ _ _ _ _ (c .before .before .before .before .before .before .before .before .before .before .before .before .before .value-at .ensures) (c .before .before .before .before .before .before .before .before .before .before .before .before .before .before .before .sought .ensures .found _ (c .before .before .before .before .before .before .before .before .before .before .before .before .before .before .before .before .before .before .before .before .before .before .before .before .before .pre .1) (c .before .before .before .before .before .before .before .before .before .before .before .before .before .before .before .before .before .before .before .loop .inv .led) (c .before .before .before .before .before .before .before .before .before .before .before .before .before .before .if2 .taken))) _ _ (c .before .before .before .before .before .before .before .before .before .before .take-found .ensures) (c .before .before .before .before .before .before .before .if3 .left) (c .before .before .before .before .before .before .before .before .before .before .before .before .before .before .before .before .before .if1 .taken) _ _ (c .before .before .before .before .before .found .ensures) _ (c .before .k2 .given .1))  -- returns-2
+    (λ c κs. search (needs, mrun-laws, c .before .before .before .before .before .before .before .before .before .before .before .before .pre .0))  -- mmember-requires
+    (λ c. search (needs, mrun-laws))  -- enum-known-k-3
+    (λ c. search (needs, mrun-laws))  -- enum-known-x-2
+    (λ c. search (needs, mrun-laws))  -- same-length-3
+    (λ c. looked-short _ _ _ _ _ _ _ _ _ _ _ _ _ _ _ (c .before .before .before .before .before .before .before .before .before .before .before .before .loop .inv) (c .before .before .before .before .before .before .before .before .before .before .before .before .before .before .before .before .before .before .pre .1) (c .before .before .before .before .before .before .before .before .before .before .if1 .taken) _ _ (c .before .before .before .before .before .mmember .ensures) _ (c .before .x2 .given .1))  -- returns-3
+    (λ c. search (needs, mrun-laws))  -- enum-known-k-4
+    (λ c. search (needs, mrun-laws))  -- same-length-4
+    (λ c. looked-refused _ _ _ _ _ _ _ _ _ _ _ _ _ _ _ (c .before .before .before .before .before .before .before .before .before .before .before .before .loop .inv) (c .before .before .before .before .before .before .before .before .before .before .before .before .before .before .before .before .before .before .pre .1) (c .before .before .before .before .before .before .before .before .before .before .if1 .taken) _ _ (c .before .before .before .before .before .mmember .ensures) _ (c .before .k4 .given .1))  -- returns-4
+    (λ c κs. search (needs, mrun-laws))  -- after-requires-3
+    (λ c. fewer _ _ _ (c .before .before .before .before .before .before .before .before .before .before .before .if1 .taken) (c .after3 .ensures))  -- loop-less-3
+    (λ c. looked-turn _ _ _ _ _ _ _ _ _ _ _ _ _ _ _ (c .before .before .before .before .before .before .before .before .before .before .before .before .before .loop .inv) (c .before .before .before .before .before .before .before .before .before .before .before .before .before .before .before .before .before .before .before .pre .1) (c .before .before .before .before .before .before .before .before .before .before .before .if1 .taken) _ _ (c .before .before .before .before .before .before .mmember .ensures) _ _ _ (c .before .before .k3 .given .1) (c .after3 .ensures))  -- loop-again-3
+    (λ c κs. c .before .before .loop .inv .led)  -- ended-from-requires
+    (λ c. search (needs, mrun-laws))  -- same-length-5
+    (λ c. looked-end _ _ _ _ _ _ _ _ _ _ _ _ _ _ _ (c .before .before .before .loop .inv) (c .before .before .before .before .before .before .before .before .before .pre .1) (c .before .if1 .left) _ (c .ended-from .ensures))  -- returns-5

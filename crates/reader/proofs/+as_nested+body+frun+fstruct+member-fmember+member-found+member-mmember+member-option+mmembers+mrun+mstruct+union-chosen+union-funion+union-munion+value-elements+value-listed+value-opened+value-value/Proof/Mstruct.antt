@@ -34,30 +34,30 @@ abbrev μ-loop : lts.MeasureT-loop
 pub closed : (t : ℕ) {M : Type 1} → lts.Closed (E t) (mstruct-at t) mstruct.Post M
 closed t =
     lts.spec (E t) (mstruct-at t) mstruct.Post Inv-loop μ-loop
-    (λ c. search (needs, mstruct-laws)) -- loop-holds
-    (λ c κs. search (needs, mstruct-laws)) -- is-full-requires
-    (λ c. search (needs, mstruct-laws)) -- same-length
-    (λ c. several-refused _ _ _ _ _ _ _ _ _ _ _ _ _ _ _ _ (c .before .before .before .before .loop .inv) (c .before .before .before .loop-test .taken) _ _ (one-full _ _ _ _ _ _ _ _ _ _ _ _ (c .before .is-full .ensures) (c .if1 .taken)) _ refl) -- returns
-    (λ c κs. search (needs, mstruct-laws)) -- ending-requires
-    (λ c. search (needs, mstruct-laws)) -- enum-known-x
-    (λ c. search (needs, mstruct-laws)) -- same-length-2
-    (λ c. several-short _ _ _ _ _ _ _ _ _ _ _ _ _ _ _ _ (c .before .before .before .before .before .before .before .before .loop .inv) (c .before .before .before .before .before .before .before .loop-test .taken) _ _ (one-short _ _ _ _ _ _ _ _ _ _ _ _ (c .before .before .before .before .before .is-full .ensures) (c .before .before .before .before .if1 .left) _ _ (mutable-short _ _ _ _ _ _ _ _ _ (c .before .before .before .ending .ensures) _ (search needs)) _ refl) _ refl) -- returns-2
-    (λ c. search (needs, mstruct-laws)) -- enum-known-end
-    (λ c. row-next _ _ _ (c .before .before .before .before .before .before .is-full .ensures) (c .before .before .before .before .before .if1 .left) (still-long (c .before .before .before .before .before .before .before .before .before .loop .inv) (c .before .before .before .before .before .before .before .before .before .before .before .before .before .before .good .1 .1 .1 .1 .0 .0))) -- add-mmembers
-    (λ c κs. search (needs, mstruct-laws)) -- mmembers-requires
-    (λ c. search (needs, mstruct-laws)) -- enum-known-x-2
-    (λ c. search (needs, mstruct-laws)) -- same-length-3
-    (λ c. several-short _ _ _ _ _ _ _ _ _ _ _ _ _ _ _ _ (c .before .before .before .before .before .before .before .before .before .before .before .before .before .before .before .loop .inv) (c .before .before .before .before .before .before .before .before .before .before .before .before .before .before .loop-test .taken) _ _ (one-short _ _ _ _ _ _ _ _ _ _ _ _ (c .before .before .before .before .before .before .before .before .before .before .before .before .is-full .ensures) (c .before .before .before .before .before .before .before .before .before .before .before .if1 .left) _ _ (mutable-body _ _ _ _ _ _ _ _ _ (c .before .before .before .before .before .before .before .before .before .before .ending .ensures) _ _ (search needs) _ _ (c .before .before .before .before .before .mmembers .ensures)) _ (search needs)) _ refl) -- returns-3
-    (λ c. search (needs, mstruct-laws)) -- enum-known-why
-    (λ c. search (needs, mstruct-laws)) -- same-length-4
-    (λ c. several-refused _ _ _ _ _ _ _ _ _ _ _ _ _ _ _ _ (c .before .before .before .before .before .before .before .before .before .before .before .before .before .before .before .loop .inv) (c .before .before .before .before .before .before .before .before .before .before .before .before .before .before .loop-test .taken) _ _ (one-refused _ _ _ _ _ _ _ _ _ _ _ _ (c .before .before .before .before .before .before .before .before .before .before .before .before .is-full .ensures) (c .before .before .before .before .before .before .before .before .before .before .before .if1 .left) _ _ (mutable-body _ _ _ _ _ _ _ _ _ (c .before .before .before .before .before .before .before .before .before .before .ending .ensures) _ _ (search needs) _ _ (c .before .before .before .before .before .mmembers .ensures)) _ (search needs)) _ refl) -- returns-4
-    (λ c. search (needs, mstruct-laws)) -- enum-known-e
-    (λ c. count-from (c .before .before .before .before .before .before .mmembers .ensures) (c .before .before .e .given .1)) -- sub-structure
-    (λ c. count-past _ (c .before .before .before .before .before .before .mmembers .ensures) (c .before .before .e .given .1)) -- sub-structure-2
-    (λ c κs. search (needs, mstruct-laws)) -- structure-requires
-    (λ c κs. place-kept _ _ _ _ _ _ (c .before .before .before .before .before .before .before .before .before .before .before .before .before .before .is-full .ensures) (c .before .before .before .before .before .before .before .before .before .before .before .before .before .if1 .left) (c .before .before .before .before .before .before .before .mmembers .ensures)) -- put-row-requires
-    (λ c. next-fits _ _ (c .before .before .before .before .before .before .before .before .before .before .before .before .before .before .before .before .before .before .before .loop-test .taken) (c .before .before .before .before .before .before .before .before .before .before .before .before .before .before .before .before .before .before .before .before .before .before .before .before .before .fits .count)) -- add-i
-    (λ c. nearer _ _ (c .before .before .before .before .before .before .before .before .before .before .before .before .before .before .before .before .before .before .before .loop-test .taken)) -- loop-less
-    (λ c. several-turn _ _ _ _ _ _ _ _ _ _ _ _ _ _ _ _ (c .before .before .before .before .before .before .before .before .before .before .before .before .before .before .before .before .before .before .before .before .loop .inv) (c .before .before .before .before .before .before .before .before .before .before .before .before .before .before .before .before .before .before .before .loop-test .taken) _ _ (one-read _ _ _ _ _ _ _ _ _ _ _ _ (c .before .before .before .before .before .before .before .before .before .before .before .before .before .before .before .before .before .is-full .ensures) (c .before .before .before .before .before .before .before .before .before .before .before .before .before .before .before .before .if1 .left) _ _ (mutable-body _ _ _ _ _ _ _ _ _ (c .before .before .before .before .before .before .before .before .before .before .before .before .before .before .before .ending .ensures) _ _ (search needs) _ _ (c .before .before .before .before .before .before .before .before .before .before .mmembers .ensures)) _ _ _ (search needs) (put-as _ _ _ _ _ (c .before .before .put-row .ensures) (c .before .before .before .structure .ensures))) _ _ refl) -- loop-again
-    (λ c. search (needs, mstruct-laws)) -- same-length-5
-    (λ c. several-end _ _ _ _ _ _ _ _ _ _ _ _ _ _ _ _ (c .before .loop .inv) (c .loop-test .left)) -- returns-5
+    (λ c. search (needs, mstruct-laws))  -- loop-holds
+    (λ c κs. search (needs, mstruct-laws))  -- is-full-requires
+    (λ c. search (needs, mstruct-laws))  -- same-length
+    (λ c. several-refused _ _ _ _ _ _ _ _ _ _ _ _ _ _ _ _ (c .before .before .before .before .loop .inv) (c .before .before .before .loop-test .taken) _ _ (one-full _ _ _ _ _ _ _ _ _ _ _ _ (c .before .is-full .ensures) (c .if1 .taken)) _ refl)  -- returns
+    (λ c κs. search (needs, mstruct-laws))  -- ending-requires
+    (λ c. search (needs, mstruct-laws))  -- enum-known-x
+    (λ c. search (needs, mstruct-laws))  -- same-length-2
+    (λ c. several-short _ _ _ _ _ _ _ _ _ _ _ _ _ _ _ _ (c .before .before .before .before .before .before .before .before .loop .inv) (c .before .before .before .before .before .before .before .loop-test .taken) _ _ (one-short _ _ _ _ _ _ _ _ _ _ _ _ (c .before .before .before .before .before .is-full .ensures) (c .before .before .before .before .if1 .left) _ _ (mutable-short _ _ _ _ _ _ _ _ _ (c .before .before .before .ending .ensures) _ (search needs)) _ refl) _ refl)  -- returns-2
+    (λ c. search (needs, mstruct-laws))  -- enum-known-end
+    (λ c. row-next _ _ _ (c .before .before .before .before .before .before .is-full .ensures) (c .before .before .before .before .before .if1 .left) (still-long (c .before .before .before .before .before .before .before .before .before .loop .inv) (c .before .before .before .before .before .before .before .before .before .before .before .before .before .before .good .1 .1 .1 .1 .0 .0)))  -- add-mmembers
+    (λ c κs. search (needs, mstruct-laws))  -- mmembers-requires
+    (λ c. search (needs, mstruct-laws))  -- enum-known-x-2
+    (λ c. search (needs, mstruct-laws))  -- same-length-3
+    (λ c. several-short _ _ _ _ _ _ _ _ _ _ _ _ _ _ _ _ (c .before .before .before .before .before .before .before .before .before .before .before .before .before .before .before .loop .inv) (c .before .before .before .before .before .before .before .before .before .before .before .before .before .before .loop-test .taken) _ _ (one-short _ _ _ _ _ _ _ _ _ _ _ _ (c .before .before .before .before .before .before .before .before .before .before .before .before .is-full .ensures) (c .before .before .before .before .before .before .before .before .before .before .before .if1 .left) _ _ (mutable-body _ _ _ _ _ _ _ _ _ (c .before .before .before .before .before .before .before .before .before .before .ending .ensures) _ _ (search needs) _ _ (c .before .before .before .before .before .mmembers .ensures)) _ (search needs)) _ refl)  -- returns-3
+    (λ c. search (needs, mstruct-laws))  -- enum-known-why
+    (λ c. search (needs, mstruct-laws))  -- same-length-4
+    (λ c. several-refused _ _ _ _ _ _ _ _ _ _ _ _ _ _ _ _ (c .before .before .before .before .before .before .before .before .before .before .before .before .before .before .before .loop .inv) (c .before .before .before .before .before .before .before .before .before .before .before .before .before .before .loop-test .taken) _ _ (one-refused _ _ _ _ _ _ _ _ _ _ _ _ (c .before .before .before .before .before .before .before .before .before .before .before .before .is-full .ensures) (c .before .before .before .before .before .before .before .before .before .before .before .if1 .left) _ _ (mutable-body _ _ _ _ _ _ _ _ _ (c .before .before .before .before .before .before .before .before .before .before .ending .ensures) _ _ (search needs) _ _ (c .before .before .before .before .before .mmembers .ensures)) _ (search needs)) _ refl)  -- returns-4
+    (λ c. search (needs, mstruct-laws))  -- enum-known-e
+    (λ c. count-from (c .before .before .before .before .before .before .mmembers .ensures) (c .before .before .e .given .1))  -- sub-structure
+    (λ c. count-past _ (c .before .before .before .before .before .before .mmembers .ensures) (c .before .before .e .given .1))  -- sub-structure-2
+    (λ c κs. search (needs, mstruct-laws))  -- structure-requires
+    (λ c κs. place-kept _ _ _ _ _ _ (c .before .before .before .before .before .before .before .before .before .before .before .before .before .before .is-full .ensures) (c .before .before .before .before .before .before .before .before .before .before .before .before .before .if1 .left) (c .before .before .before .before .before .before .before .mmembers .ensures))  -- put-row-requires
+    (λ c. next-fits _ _ (c .before .before .before .before .before .before .before .before .before .before .before .before .before .before .before .before .before .before .before .loop-test .taken) (c .before .before .before .before .before .before .before .before .before .before .before .before .before .before .before .before .before .before .before .before .before .before .before .before .before .fits .count))  -- add-i
+    (λ c. nearer _ _ (c .before .before .before .before .before .before .before .before .before .before .before .before .before .before .before .before .before .before .before .loop-test .taken))  -- loop-less
+    (λ c. several-turn _ _ _ _ _ _ _ _ _ _ _ _ _ _ _ _ (c .before .before .before .before .before .before .before .before .before .before .before .before .before .before .before .before .before .before .before .before .loop .inv) (c .before .before .before .before .before .before .before .before .before .before .before .before .before .before .before .before .before .before .before .loop-test .taken) _ _ (one-read _ _ _ _ _ _ _ _ _ _ _ _ (c .before .before .before .before .before .before .before .before .before .before .before .before .before .before .before .before .before .is-full .ensures) (c .before .before .before .before .before .before .before .before .before .before .before .before .before .before .before .before .if1 .left) _ _ (mutable-body _ _ _ _ _ _ _ _ _ (c .before .before .before .before .before .before .before .before .before .before .before .before .before .before .before .ending .ensures) _ _ (search needs) _ _ (c .before .before .before .before .before .before .before .before .before .before .mmembers .ensures)) _ _ _ (search needs) (put-as _ _ _ _ _ (c .before .before .put-row .ensures) (c .before .before .before .structure .ensures))) _ _ refl)  -- loop-again
+    (λ c. search (needs, mstruct-laws))  -- same-length-5
+    (λ c. several-end _ _ _ _ _ _ _ _ _ _ _ _ _ _ _ _ (c .before .loop .inv) (c .loop-test .left))  -- returns-5

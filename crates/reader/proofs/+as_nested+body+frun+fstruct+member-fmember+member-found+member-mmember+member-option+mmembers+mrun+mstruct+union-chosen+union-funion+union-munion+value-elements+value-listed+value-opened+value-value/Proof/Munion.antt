@@ -17,18 +17,18 @@ E t = (members-reads.Asked, members-reads.Learnt, unheard-dheader-reads.Asked, u
 pub closed : (t : ℕ) {M : Type 1} → lts.Closed (E t) (union·munion-at t) union·munion.Post M
 closed t =
     lts.spec (E t) (union·munion-at t) union·munion.Post
-    (λ c κs. search (needs, munion-laws)) -- members-requires
-    (λ c. search (needs, munion-laws)) -- returns
-    (λ c κs. search (needs, munion-laws)) -- unheard-dheader-requires
-    (λ c κs. search (needs, munion-laws)) -- mmember-requires
-    (λ c. search (needs, munion-laws)) -- enum-known-d
-    (λ c κs. search (needs, munion-laws)) -- discriminator-at-requires
-    (λ c κs. search (needs, munion-laws, c .before .before .before .before .before .before .before .before .before .before .before .before .before .before .before .before .before .before .pre)) -- chosen-requires
-    (λ c. search (needs, munion-laws)) -- enum-known-x
-    (λ c. search (needs, munion-laws)) -- enum-known-k
-    (λ c. search (needs, munion-laws)) -- same-length
-    (λ c. search (needs, munion-laws)) -- returns-2
-    (λ c. search (needs, munion-laws)) -- same-length-2
-    (λ c. search (needs, munion-laws)) -- returns-3
-    (λ c. search (needs, munion-laws)) -- same-length-3
-    (λ c. search (needs, munion-laws)) -- returns-4
+    (λ c κs. search (needs, munion-laws))  -- members-requires
+    (λ c. search (needs, munion-laws))  -- returns
+    (λ c κs. search (needs, munion-laws))  -- unheard-dheader-requires
+    (λ c κs. search (needs, munion-laws))  -- mmember-requires
+    (λ c. search (needs, munion-laws))  -- enum-known-d
+    (λ c κs. search (needs, munion-laws))  -- discriminator-at-requires
+    (λ c κs. search (needs, munion-laws, c .before .before .before .before .before .before .before .before .before .before .before .before .before .before .before .before .before .before .pre))  -- chosen-requires
+    (λ c. search (needs, munion-laws))  -- enum-known-x
+    (λ c. search (needs, munion-laws))  -- enum-known-k
+    (λ c. search (needs, munion-laws))  -- same-length
+    (λ c. search (needs, munion-laws))  -- returns-2
+    (λ c. search (needs, munion-laws))  -- same-length-2
+    (λ c. search (needs, munion-laws))  -- returns-3
+    (λ c. search (needs, munion-laws))  -- same-length-3
+    (λ c. search (needs, munion-laws))  -- returns-4

@@ -31,28 +31,28 @@ abbrev μ-loop : lts.MeasureT-loop
 pub closed : (t : ℕ) {M : Type 1} → lts.Closed (E t) (value·opened-at t) value·opened.Post M
 closed t =
     lts.spec (E t) (value·opened-at t) value·opened.Post Inv-loop μ-loop
-    (λ c κs. search (needs, opened-laws)) -- place-requires
-    (λ c κs. search (needs, opened-laws)) -- is-final-requires
-    (λ c. search (needs, opened-laws)) -- sub-fstruct
-    (λ c κs. search (needs, opened-laws)) -- fstruct-requires
-    (λ c. search (needs, opened-laws)) -- same-length
-    (λ c. opened-structures _ _ _ _ _ _ _ _ (c .before .before .before .before .before .before .before .place .ensures) (sym (c .before .before .before .before .before .before .is-final .ensures) ∙ c .before .before .before .before .before .if1 .taken) (c .before .before .before .before .if2 .taken) _ _ _ _ _ _ (c .before .before .fstruct .ensures)) -- returns
-    (λ c κs. search (needs, opened-laws)) -- is-mutable-structure-requires
-    (λ c. search (needs, opened-laws)) -- sub-mstruct
-    (λ c κs. search (needs, opened-laws)) -- mstruct-requires
-    (λ c. search (needs, opened-laws)) -- same-length-2
-    (λ c. opened-structures _ _ _ _ _ _ _ _ (c .before .before .before .before .before .before .before .before .before .place .ensures) (sym (c .before .before .before .before .before .before .is-mutable-structure .ensures) ∙ c .before .before .before .before .before .if3 .taken) (c .before .before .before .before .if4 .taken) _ _ _ _ _ _ (c .before .before .mstruct .ensures)) -- returns-2
-    (λ c. search (needs, opened-laws)) -- loop-holds
-    (λ c κs. search (needs, opened-laws)) -- as-nested-requires
-    (λ c. search (needs, opened-laws)) -- enum-known-e
-    (λ c. search (needs, opened-laws)) -- enum-known-x
-    (λ c. search (needs, opened-laws)) -- same-length-3
-    (λ c. search (needs, opened-laws)) -- returns-3
-    (λ c. search (needs, opened-laws)) -- enum-known-k
-    (λ c. search (needs, opened-laws)) -- same-length-4
-    (λ c. search (needs, opened-laws)) -- returns-4
-    (λ c. search (needs, opened-laws)) -- add-i
-    (λ c. search (needs, opened-laws)) -- loop-less
-    (λ c. search (needs, opened-laws)) -- loop-again
-    (λ c. search (needs, opened-laws)) -- same-length-5
-    (λ c. search (needs, opened-laws)) -- returns-5
+    (λ c κs. search (needs, opened-laws))  -- place-requires
+    (λ c κs. search (needs, opened-laws))  -- is-final-requires
+    (λ c. search (needs, opened-laws))  -- sub-fstruct
+    (λ c κs. search (needs, opened-laws))  -- fstruct-requires
+    (λ c. search (needs, opened-laws))  -- same-length
+    (λ c. opened-structures _ _ _ _ _ _ _ _ (c .before .before .before .before .before .before .before .place .ensures) (sym (c .before .before .before .before .before .before .is-final .ensures) ∙ c .before .before .before .before .before .if1 .taken) (c .before .before .before .before .if2 .taken) _ _ _ _ _ _ (c .before .before .fstruct .ensures))  -- returns
+    (λ c κs. search (needs, opened-laws))  -- is-mutable-structure-requires
+    (λ c. search (needs, opened-laws))  -- sub-mstruct
+    (λ c κs. search (needs, opened-laws))  -- mstruct-requires
+    (λ c. search (needs, opened-laws))  -- same-length-2
+    (λ c. opened-structures _ _ _ _ _ _ _ _ (c .before .before .before .before .before .before .before .before .before .place .ensures) (sym (c .before .before .before .before .before .before .is-mutable-structure .ensures) ∙ c .before .before .before .before .before .if3 .taken) (c .before .before .before .before .if4 .taken) _ _ _ _ _ _ (c .before .before .mstruct .ensures))  -- returns-2
+    (λ c. search (needs, opened-laws))  -- loop-holds
+    (λ c κs. search (needs, opened-laws))  -- as-nested-requires
+    (λ c. search (needs, opened-laws))  -- enum-known-e
+    (λ c. search (needs, opened-laws))  -- enum-known-x
+    (λ c. search (needs, opened-laws))  -- same-length-3
+    (λ c. search (needs, opened-laws))  -- returns-3
+    (λ c. search (needs, opened-laws))  -- enum-known-k
+    (λ c. search (needs, opened-laws))  -- same-length-4
+    (λ c. search (needs, opened-laws))  -- returns-4
+    (λ c. search (needs, opened-laws))  -- add-i
+    (λ c. search (needs, opened-laws))  -- loop-less
+    (λ c. search (needs, opened-laws))  -- loop-again
+    (λ c. search (needs, opened-laws))  -- same-length-5
+    (λ c. search (needs, opened-laws))  -- returns-5
