@@ -17,13 +17,13 @@ use Rattle.wire.specs.declared.settings.Version.the-variants.{Xcdr1, Xcdr2}
 use Rattle.wire.specs.declared.cursor.Cursor.{Cursor}
 use Rattle.wire.specs.declared.cursor.Place.the-variants as place
 use Rattle.wire.specs.declared.number.Number.the-variants as number
-use Rattle.wire.proofs.Moves.{seek-at, alignment-own, padding-by}
+use Rattle.wire.proofs.Moves.{seek-at, alignment-own, alignment-four, padding-by}
 use Rattle.wire.proofs.Numbers.{Moved, read-aligned}
 use Rattle.lookup.specs.Search.{pastValue, seekBy}
 use Rattle.lookup.specs.Xcdr1 as xcdr1
 use Rattle.lookup.specs.Xcdr2 as xcdr2
 use Rattle.lookup.specs.Member.{locatedV1, locatedV2, lookedUp, locate}
-use Rattle.lookup.specs.Ahead.{searched, Leads, NextIs, aheadOf, AheadAt, AheadIs, valueAt, HeadAt, LongHead, PassedTo}
+use Rattle.lookup.specs.Ahead.{searched, askedFor, Leads, HeaderId, NextIs, aheadOf, AheadAt, AheadIs, valueAt, HeadAt, HeadOrEnd, LongHead, PassedTo}
 use Rattle.lookup.specs.declared.search.Seek.{Seek}
 use Rattle.lookup.specs.declared.search.Seek.the-variants.{Found, PidNotFound, Short}
 use Rattle.lookup.specs.declared.search.Turn.{Turn}
@@ -63,57 +63,67 @@ module _ (s : List ℕ) (set : Settings) where
 module _ (s : List ℕ) (set : Settings) where
   pub lead-refl : (c : Cursor) (n : ℕ) → Leads s set c c n
   unfolding Leads
-  lead-refl c n id l h = refl
+  lead-refl c n id l = refl
 
   pub lead-trans : (a b c : Cursor) (m n : ℕ) → Leads s set a b m → Leads s set b c n → m ≤ n → Leads s set a c n
   unfolding Leads
-  lead-trans a b c m n f g h id l k = f id (omega arith) k ∙ g id l k
+  lead-trans a b c m n f g h id l = f id (omega arith) ∙ g id l
 
 -- what a header settles: it is the wanted one's, and for every later id it is passed over
-module _ (s : List ℕ) (set : Settings) (id : ℕ) (at y : Cursor) (n : ℕ) (kept : y .origin ≡ at .origin) (miss : (w : ℕ) → id + 1 ≤ w → w < 2 ^ 16 → turnBy s set (set .version) w at ≡ pastValue s set y n) where
-  next-is : (next : ℕ) → PassedTo s y n next → NextIs s set id at next
+module _ (s : List ℕ) (set : Settings) (id : ℕ) (at y : Cursor) (n : ℕ) (kept : y .origin ≡ at .origin) (own : HeaderId (set .version) id) (miss : (w : ℕ) → id + 1 ≤ askedFor (set .version) w → turnBy s set (set .version) w at ≡ pastValue s set y n) where
+  next-is : (q : ℕ) → PassedTo s y n q → NextIs s set id at q
   unfolding NextIs PassedTo Leads
-  next-is zero p = tt
-  next-is (suc q) p = λ w l k.
-      by-turns s set (set .version) w at
-      ∙ seek-on s (turnBy s set (set .version) w) (moves-by s set (set .version) w) at (cursorAt (suc q) (at .origin)) (miss w l k ∙ p set ∙ ap (λ (o : ℕ). On (cursorAt (suc q) o)) kept)
-      ∙ sym (by-turns s set (set .version) w (cursorAt (suc q) (at .origin)))
+  next-is q p = (
+    rw kept at (p .0),
+    λ h w l.
+        by-turns s set (set .version) w at
+        ∙ seek-on s (turnBy s set (set .version) w) (moves-by s set (set .version) w) at (cursorAt q (at .origin)) (miss w l ∙ p .1 h set ∙ ap (λ (o : ℕ). On (cursorAt q o)) kept)
+        ∙ sym (by-turns s set (set .version) w (cursorAt q (at .origin))),
+  )
 
   settled : (value next : ℕ) → turnBy s set (set .version) id at ≡ Done (Found n (cursorAt value (at .origin))) → 0 < n → PassedTo s y n next → AheadAt s set id at n next value
   unfolding AheadAt
   settled zero next hit some p = tt
   settled (suc v) next hit some p =
-      (by-turns s set (set .version) id at ∙ seek-done s (turnBy s set (set .version) id) at _ hit, some, next-is next p)
+      (by-turns s set (set .version) id at ∙ seek-done s (turnBy s set (set .version) id) at _ hit, some, own, next-is next p)
 
   made : (value next : ℕ) (r : Ahead) → r ≡ aheadOf value n next → turnBy s set (set .version) id at ≡ Done (Found n (cursorAt value (at .origin))) → 0 < n → PassedTo s y n next → AheadIs s set id at r
   unfolding AheadIs
   made value next r e hit some p = rw e (settled value next hit some p)
 
 -- past a value: the alignment to 4 is the same in both versions
-align4 : (v : Version) → alignmentOf v 4 ≡ 4
-unfolding alignmentOf
-align4 Xcdr1 = refl
-align4 Xcdr2 = refl
-
 module _ (s : List ℕ) (pos n origin : ℕ) where
-  pub passed-none : PassedTo s (cursorAt pos origin) n 0
+  pub passed-end : PassedTo s (cursorAt pos origin) n (length s)
   unfolding PassedTo
-  passed-none = tt
+  passed-end = (record { inside = omega arith; head = λ h. absurd (omega arith) }, λ h. absurd (omega arith))
 
   passed-on : (set : Settings) (p : ℕ) → p ≡ (4 - (pos + n - origin) % 4) % 4 → pos + n + p ≤ length s → pastValue s set (cursorAt pos origin) n ≡ On (cursorAt (pos + n + p) origin)
   unfolding pastValue afterMove alignTo paddingOf
   passed-on set p e h =
       let a : seekTo s (cursorAt pos origin) n ≡ place.At (cursorAt (pos + n) origin) = sym (seek-at s (cursorAt pos origin) n (omega arith)) in
       let b : seekTo s (cursorAt (pos + n) origin) p ≡ place.At (cursorAt (pos + n + p) origin) = sym (seek-at s (cursorAt (pos + n) origin) p h) in
-      rw (a, align4 (set .version), ← e, b)
+      rw (a, alignment-four (set .version), ← e, b)
 
-  pub passed-to : (p : ℕ) → p ≡ (4 - (pos + n - origin) % 4) % 4 → pos + n + p ≤ length s → PassedTo s (cursorAt pos origin) n (pos + n + p)
+  pub passed-to : (p : ℕ) → p ≡ (4 - (pos + n - origin) % 4) % 4 → origin ≤ pos → pos + n + p ≤ length s → PassedTo s (cursorAt pos origin) n (pos + n + p)
   unfolding PassedTo
-  passed-to p e h = go (pos + n + p) refl
-    where
-      go : (q : ℕ) → pos + n + p ≡ q → PassedTo s (cursorAt pos origin) n q
-      go zero f = tt
-      go (suc q) f = λ set. passed-on set p e h ∙ ap (λ (x : ℕ). On (cursorAt x origin)) f
+  passed-to p e o h =
+      (record { inside = h; head = λ k. record { after = omega arith; aligned = omega arith; inside = k } }, λ k set. passed-on set p e h)
+
+-- the ids that headers have
+asked2 : (ver : Version) (w : ℕ) → ver ≡ Xcdr2 → askedFor ver w ≡ w
+unfolding askedFor
+asked2 Xcdr1 w e = absurd (let y : _≡_ {A = ℕ} 0 1 = cc in omega arith)
+asked2 Xcdr2 w e = refl
+
+asked1 : (ver : Version) (w : ℕ) → ver ≡ Xcdr1 → askedFor ver w ≡ w % 2 ^ 16
+unfolding askedFor
+asked1 ver w e = rw e
+
+own2 : (ver : Version) (v : ℕ) → ver ≡ Xcdr2 → HeaderId ver (xcdr2.idOf v)
+own2 ver v e = record { small = omega arith; uncut = asked2 ver (xcdr2.idOf v) e }
+
+own1 : (ver : Version) (v : ℕ) → ver ≡ Xcdr1 → HeaderId ver (v % 16384)
+own1 ver v e = let f = asked1 ver (v % 16384) e in record { small = omega arith; uncut = omega arith }
 
 -- a header that stands with no padding before it
 module _ (s : List ℕ) (set : Settings) (pos origin : ℕ) (head : HeadAt s pos origin) where
@@ -122,7 +132,7 @@ module _ (s : List ℕ) (set : Settings) (pos origin : ℕ) (head : HeadAt s pos
   no-padding = rw (head .aligned)
 
   read4 : readNumber s set (cursorAt pos origin) 4 ≡ number.Got (numberAt (set .order) 0 s pos 4) (cursorAt (pos + 4) origin)
-  read4 = read-aligned s set (cursorAt pos origin) 4 (rw (align4 (set .version)) no-padding) (head .inside)
+  read4 = read-aligned s set (cursorAt pos origin) 4 (rw (alignment-four (set .version)) no-padding) (head .inside)
 
   -- where NEXTINT is there too, it stands so as well
   nextint-head : 4 ≤ length s - (pos + 4) → HeadAt s (pos + 4) origin
@@ -142,7 +152,7 @@ module _ (s : List ℕ) (set : Settings) (pos origin : ℕ) (head : HeadAt s pos
     ahead2 : (value next : ℕ) (r : Ahead) → r ≡ aheadOf value n next → xcdr2.steppedBack (xcdr2.lcOf v) y ≡ cursorAt value origin → y .origin ≡ origin → 0 < n → PassedTo s y n next → AheadIs s set (xcdr2.idOf v) (cursorAt pos origin) r
     unfolding xcdr2.judged
     ahead2 value next r e back kept some p =
-        made s set (xcdr2.idOf v) (cursorAt pos origin) y n kept (λ w l k. judged2 w ∙ (rw (ne-eqb (xcdr2.idOf v) w (omega arith)))) value next r e
+        made s set (xcdr2.idOf v) (cursorAt pos origin) y n kept (own2 (set .version) v version) (λ w l. judged2 w ∙ (rw (ne-eqb (xcdr2.idOf v) w (let f = asked2 (set .version) w version in omega arith)))) value next r e
         (judged2 (xcdr2.idOf v) ∙ (rw (eq-eqb (xcdr2.idOf v) (xcdr2.idOf v) refl, back))) some p
 
   -- a length code below 4 tells the length
@@ -172,7 +182,10 @@ module _ (s : List ℕ) (set : Settings) (v pos origin : ℕ) (long : LongHead s
       ahead2 s set pos origin (long .head) (long .version) v (long .is) (m * u) _ told-long (pos + 4 + 4) next r f (rw (ne-eqb (xcdr2.lcOf v) 5 other)) refl (omega arith) p
 
 -- eight times a u32 is far from what a word holds
-pub long-fits : (m u : ℕ) → m < 256 ^ 4 → u ≤ 8 → m * u < 2 ^ 64
+pub long-word : (m u : ℕ) → m < 256 ^ 4 → u ≤ 8 → m * u < 2 ^ 64
+long-word m u h k = omega (arith, mul-le-mul (le-of-lt h) k)
+
+pub long-fits : (m u : ℕ) → m < 256 ^ 4 → u ≤ 8 → m * u ≤ 2 ^ 35
 long-fits m u h k = omega (arith, mul-le-mul (le-of-lt h) k)
 
 -- a value that is not empty is not the end
@@ -213,9 +226,10 @@ module _ (s : List ℕ) (set : Settings) (pos origin : ℕ) (head : HeadAt s pos
     unfolding xcdr1.judged
     ahead1 id next e some p r f =
         let on : xcdr1.isEnd (v % 16384) n ≡ false = not-end (v % 16384) n some in
-        made s set id (cursorAt pos origin) (cursorAt (pos + 4) origin) n refl
-        (λ w l k. judged1 w ∙ (rw (on, ne-eqb (v % 16384) (w % 65536) (omega arith)))) (pos + 4) next r f
-        (judged1 id ∙ (rw (on, eq-eqb (v % 16384) (id % 65536) (omega arith)))) (omega arith) p
+        rw (← e)
+        (made s set (v % 16384) (cursorAt pos origin) (cursorAt (pos + 4) origin) n refl (own1 (set .version) v version)
+        (λ w l. judged1 w ∙ (rw (on, ne-eqb (v % 16384) (w % 65536) (let f = asked1 (set .version) w version in omega arith)))) (pos + 4) next r f
+        (judged1 (v % 16384) ∙ (rw (on, eq-eqb (v % 16384) (v % 16384 % 65536) (omega arith)))) (omega arith) p)
 
 -- nothing is said, or the same under the wanted id's own name
 pub ahead-none : (s : List ℕ) (set : Settings) (id : ℕ) (at : Cursor) (r : Ahead) → r ≡ aheadOf 0 0 0 → AheadIs s set id at r
@@ -232,13 +246,8 @@ told-last lc h a b c = let e : lc ≡ 3 = omega arith in rw e
 pub unit-at : (lc k u : ℕ) → lc ≡ k → u ≡ xcdr2.unitBy k → u ≡ xcdr2.unitBy lc
 unit-at lc k u e f = rw e f
 
-pub unit-one : (lc : ℕ) → lc < 8 → (lc ≡ 6 → ⊥) → (lc ≡ 7 → ⊥) → _≡_ {A = ℕ} 1 (xcdr2.unitBy lc)
-unit-one lc h a b = go (lc - 4) (omega arith)
-  where
-    go : (k : ℕ) → k < 2 → _≡_ {A = ℕ} 1 (getD (1 ∷ 1 ∷ 4 ∷ 8 ∷ []) k 0)
-    go zero l = refl
-    go (suc zero) l = refl
-    go (suc (suc k)) l = absurd (omega arith)
+pub unit-last : (lc : ℕ) → 4 ≤ lc → lc < 8 → (lc ≡ 4 → ⊥) → (lc ≡ 5 → ⊥) → (lc ≡ 6 → ⊥) → _≡_ {A = ℕ} 8 (xcdr2.unitBy lc)
+unit-last lc l h a b c = let e : lc ≡ 7 = omega arith in rw e
 
 -- where a found value is read
 module _ (version : Version) (pos origin : ℕ) (r : Cursor) where
@@ -257,19 +266,28 @@ module _ (s : List ℕ) (set : Settings) where
   looked Xcdr1 id n v o back e h = rw (e, lt-ltb _ _ h)
   looked Xcdr2 id n v o back e h = rw e
 
-  pub ahead-located : (id least v : ℕ) (c back at : Cursor) (r : Ahead) → alignTo s (set .version) c 4 ≡ place.At back → Leads s set back at least → least ≤ id → id < 2 ^ 16
-      → AheadIs s set id at r → r .value ≡ suc v → locate s set id c ≡ located.Found (r .length) (valueAt (set .version) (suc v) (at .origin)) back
+  pub ahead-located : (id least v : ℕ) (back at : Cursor) (r : Ahead) → alignTo s (set .version) back 4 ≡ place.At back → Leads s set back at least → least ≤ id
+      → AheadIs s set id at r → r .value ≡ suc v → locate s set id back ≡ located.Found (r .length) (valueAt (set .version) (suc v) (at .origin)) back
   unfolding locate afterMove Leads AheadIs AheadAt
-  ahead-located id least v c back at r e leads l k is some =
+  ahead-located id least v back at r e leads l is some =
       let a = rw some at is in
-      rw e (looked (set .version) id (r .length) (suc v) (at .origin) back (leads id l k ∙ a .0) (a .1))
+      let u = a .2 .uncut in
+      rw e (looked (set .version) id (r .length) (suc v) (at .origin) back (leads id (omega arith) ∙ a .0) (a .1))
 
-  pub ahead-next : (id least v q : ℕ) (back at : Cursor) (r : Ahead) → Leads s set back at least → least ≤ id + 1 → AheadIs s set id at r → r .value ≡ suc v → r .next ≡ suc q
-      → Leads s set back (cursorAt (suc q) (at .origin)) (id + 1)
+  pub ahead-small : (id v : ℕ) (at : Cursor) (r : Ahead) → AheadIs s set id at r → r .value ≡ suc v → id < 2 ^ 28
+  unfolding AheadIs AheadAt
+  ahead-small id v at r is some = let a = rw some at is in a .2 .small
+
+  pub ahead-next : (id least v : ℕ) (back at : Cursor) (r : Ahead) → Leads s set back at least → least ≤ id + 1 → AheadIs s set id at r → r .value ≡ suc v → r .next + 4 ≤ length s
+      → Leads s set back (cursorAt (r .next) (at .origin)) (id + 1)
   unfolding AheadIs AheadAt NextIs
-  ahead-next id least v q back at r leads l is some known =
-      let a = rw (some, known) at is in
-      lead-trans s set back at (cursorAt (suc q) (at .origin)) least (id + 1) leads (a .2) l
+  ahead-next id least v back at r leads l is some known =
+      let a = rw some at is in
+      lead-trans s set back at (cursorAt (r .next) (at .origin)) least (id + 1) leads (a .3 .1 known) l
+
+  pub ahead-place : (id v : ℕ) (at : Cursor) (r : Ahead) → AheadIs s set id at r → r .value ≡ suc v → HeadOrEnd s (r .next) (at .origin)
+  unfolding AheadIs AheadAt NextIs
+  ahead-place id v at r is some = let a = rw some at is in a .3 .0
 
   by-v1 : (ver : Version) (id : ℕ) (a b : Cursor) → ver ≡ Xcdr1 → searched s set ver id a ≡ searched s set ver id b → xcdr1.seekToPid s set id a ≡ xcdr1.seekToPid s set id b
   unfolding searched
@@ -278,7 +296,7 @@ module _ (s : List ℕ) (set : Settings) where
   pub lead-sentinel : (from to : Cursor) (least : ℕ) → set .version ≡ Xcdr1 → Leads s set from to least → least ≤ 0x3F02 → xcdr1.seekToSentinel s set from ≡ xcdr1.seekToSentinel s set to
   unfolding Leads xcdr1.seekToSentinel xcdr1.standing
   lead-sentinel from to least v leads l =
-      let e = by-v1 (set .version) 0x3F02 from to v (leads 0x3F02 l (lit< tt)) in
+      let e = by-v1 (set .version) 0x3F02 from to v (leads 0x3F02 (let f = asked1 (set .version) 0x3F02 v in omega arith)) in
       rw e (go (xcdr1.seekToPid s set 0x3F02 to) refl)
     where
       go : (f : Seek) → xcdr1.seekToPid s set 0x3F02 to ≡ f → xcdr1.standing from f ≡ xcdr1.standing to f

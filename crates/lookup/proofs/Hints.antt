@@ -1,9 +1,9 @@
 -- Laws of the hint: what it is to be asked there, and what it says of the structure's end. Assumes nothing.
-use Prim.Native.Nat.{ℕ, zero, suc, _+_, _-_, _≤_, _<_, _^_}
-use mathlib.Core.Path.{_≡_, refl, sym, ap, _∙_}
+use Prim.Native.Nat.{ℕ, suc, _+_, _-_, _%_, _≤_, _<_, _^_}
+use mathlib.Core.Path.{_≡_, sym, ap, _∙_}
 use mathlib.Core.List.{List}
+use lib.ListN.{length}
 use native.Mathlib.Omega.{arith}
-use borrow.Author.Tests.{ne-eqb}
 use Rattle.wire.specs.Place.{cursorAt, alignTo}
 use Rattle.wire.specs.declared.cursor.Cursor.{Cursor}
 use Rattle.wire.specs.declared.cursor.Place.the-variants as place
@@ -14,49 +14,45 @@ use Rattle.lookup.specs.Member.{locate}
 use Rattle.lookup.specs.declared.member.Located.the-variants as located
 use Rattle.lookup.specs.declared.ahead.Ahead.{Ahead}
 use Rattle.lookup.specs.declared.ahead.Hint.{Hint}
-use Rattle.lookup.specs.Ahead.{Leads, AheadIs, aheadOf, valueAt, Led, ledOn, Sought}
-use Rattle.lookup.proofs.Aheads.{lead-refl, ahead-located, ahead-next, lead-sentinel}
+use Rattle.lookup.specs.Ahead.{AheadIs, aheadOf, valueAt, HeadAt, HeadOrEnd, Led, hintFrom, ledOn, Sought}
+use Rattle.lookup.proofs.Aheads.{lead-refl, ahead-located, ahead-small, ahead-next, ahead-place, lead-sentinel}
 
--- nothing is known at first but the start itself
-pub led-start : (s : List ℕ) (set : Settings) (back : Cursor) (h : Hint) → h .next ≡ back .pos → Led s set back (back .origin) h
-unfolding Led
-led-start s set back h e = rw e (lead-refl s set back (h .least))
+-- nothing is known at first but the start itself, and at the data's end nothing at all
+pub led-start : (s : List ℕ) (set : Settings) (back : Cursor) (h : Hint) → h ≡ hintFrom (back .pos) → back .origin ≤ back .pos → back .pos ≤ length s → (back .pos - back .origin) % 4 ≡ 0 → Led s set back (back .origin) h
+led-start s set back h f o i a =
+    let e : h .next ≡ back .pos = ap (λ (x : Hint). x .next) f in
+    record { place = record { inside = omega arith; head = λ k. record { after = omega arith; aligned = rw e a; inside = k } }; leads = λ k. rw e (lead-refl s set back (h .least)) }
+
+pub led-nowhere : (s : List ℕ) (set : Settings) (back : Cursor) (origin : ℕ) (h : Hint) → h ≡ hintFrom (length s) → Led s set back origin h
+led-nowhere s set back origin h f = let e : h .next ≡ length s = ap (λ (x : Hint). x .next) f in record { place = record { inside = omega arith; head = λ k. absurd (omega arith) }; leads = λ k. absurd (omega arith) }
 
 pub sought-none : (s : List ℕ) (set : Settings) (id : ℕ) (h : Hint) (origin : ℕ) (r : Ahead) → r ≡ aheadOf 0 0 0 → Sought s set id h origin r
 sought-none s set id h origin r e =
     let z : r .value ≡ 0 = ap (λ (x : Ahead). x .value) e in
     record { small = λ k. absurd (omega arith); found = λ back al led k. absurd (omega arith); on = λ back led k. absurd (omega arith) }
 
-module _ (s : List ℕ) (set : Settings) (id : ℕ) (h : Hint) (origin : ℕ) (r : Ahead) (from : h .least ≤ id) (low : id < 2 ^ 16) (is : AheadIs s set id (cursorAt (h .next) origin) r) where
-  there : (back : Cursor) → alignTo s (set .version) back 4 ≡ place.At back → Led s set back origin h → 0 < r .value → locate s set id back ≡ located.Found (r .length) (valueAt (set .version) (r .value) origin) back
-  unfolding Led
-  there back al led k =
-      let e : r .value ≡ suc (r .value - 1) = omega arith in
-      ahead-located s set id (h .least) (r .value - 1) back back (cursorAt (h .next) origin) r al led from low is e ∙ ap (λ (x : ℕ). located.Found (r .length) (valueAt (set .version) x origin) back) (sym e)
+-- a header stands there, where four bytes are left
+pub head-there : (s : List ℕ) (pos origin : ℕ) → HeadOrEnd s pos origin → 4 ≤ length s - pos → HeadAt s pos origin
+head-there s pos origin h k = let i = h .inside in h .head (omega arith)
 
-  further : (back : Cursor) → Led s set back origin h → 0 < r .value → (q : ℕ) → r .next ≡ q → Led s set back origin (ledOn h r id)
-  unfolding ledOn Led
-  further back led k zero e = rw e led
-  further back led k (suc q) e =
-      let z : r .value ≡ suc (r .value - 1) = omega arith in
-      rw (e, ne-eqb (suc q) 0 (λ y. absurd (omega arith))) (ahead-next s set id (h .least) (r .value - 1) q back (cursorAt (h .next) origin) r led (omega arith) is z e)
+pub sought-at : (s : List ℕ) (set : Settings) (id : ℕ) (h : Hint) (origin : ℕ) (r : Ahead) → h .least ≤ id → HeadOrEnd s (h .next) origin → 4 ≤ length s - h .next → AheadIs s set id (cursorAt (h .next) origin) r → Sought s set id h origin r
+sought-at s set id h origin r from near left is = record { small = λ k. ahead-small s set id _ _ r is (more k); found = at-it; on = further }
+  where
+    there : h .next + 4 ≤ length s
+    there = head-there s (h .next) origin near left .inside
 
-  sought-look : Sought s set id h origin r
-  sought-look = record { small = λ k. low; found = there; on = λ back led k. further back led k (r .next) refl }
+    more : 0 < r .value → r .value ≡ suc (r .value - 1)
+    more k = omega arith
 
-pub sought-at : (s : List ℕ) (set : Settings) (id : ℕ) (h : Hint) (origin : ℕ) (r : Ahead) (at : Cursor) → h .least ≤ id → id ≤ 65535 → at ≡ cursorAt (h .next) origin → AheadIs s set id at r → Sought s set id h origin r
-sought-at s set id h origin r at from low e is = sought-look s set id h origin r from (omega arith) (rw e at is)
+    at-it : (back : Cursor) → alignTo s (set .version) back 4 ≡ place.At back → Led s set back origin h → 0 < r .value → locate s set id back ≡ located.Found (r .length) (valueAt (set .version) (r .value) origin) back
+    at-it back al led k =
+        ahead-located s set id (h .least) (r .value - 1) back (cursorAt (h .next) origin) r al (led .leads there) from is (more k)
+        ∙ ap (λ (x : ℕ). located.Found (r .length) (valueAt (set .version) x origin) back) (sym (more k))
 
--- the hint that goes on
-pub onward-kept : (h : Hint) (a : Ahead) (id : ℕ) → a .next ≡ 0 → h ≡ ledOn h a id
-unfolding ledOn
-onward-kept h a id e = rw e
-
-pub onward-moved : (h : Hint) (a : Ahead) (id : ℕ) → (a .next ≡ 0 → ⊥) → record { next = a .next; least = id + 1 } ≡ ledOn h a id
-unfolding ledOn
-onward-moved h a id e = rw (ne-eqb (a .next) 0 e)
+    further : (back : Cursor) → Led s set back origin h → 0 < r .value → Led s set back origin (ledOn r id)
+    further back led k =
+        record { place = ahead-place s set id _ (cursorAt (h .next) origin) r is (more k); leads = λ f. ahead-next s set id (h .least) _ back (cursorAt (h .next) origin) r (led .leads there) (omega arith) is (more k) f }
 
 -- the end marker is as far from the hint
-pub led-sentinel : (s : List ℕ) (set : Settings) (back : Cursor) (origin : ℕ) (h : Hint) → set .version ≡ Xcdr1 → Led s set back origin h → h .least ≤ 0x3F02 → seekToSentinel s set back ≡ seekToSentinel s set (cursorAt (h .next) origin)
-unfolding Led
-led-sentinel s set back origin h v led l = lead-sentinel s set back (cursorAt (h .next) origin) (h .least) v led l
+pub led-sentinel : (s : List ℕ) (set : Settings) (back : Cursor) (origin : ℕ) (h : Hint) → set .version ≡ Xcdr1 → Led s set back origin h → h .next + 4 ≤ length s → h .least ≤ 0x3F02 → seekToSentinel s set back ≡ seekToSentinel s set (cursorAt (h .next) origin)
+led-sentinel s set back origin h v led there l = lead-sentinel s set back (cursorAt (h .next) origin) (h .least) v (led .leads there) l

@@ -4,7 +4,7 @@ ghost use mathlib.Core.Path.{_≡_};
 ghost use Prim.Native.Nat.{_≤_, _<_, _^_};
 ghost use lib.ListN.{length};
 ghost use Rattle.wire.specs.Place.{cursorAt};
-ghost use Rattle.lookup.specs.Ahead.{aheadOf, AheadIs, Sought, ledOn, valueAt, HeadAt, LongHead, PassedTo};
+ghost use Rattle.lookup.specs.Ahead.{aheadOf, AheadIs, Sought, Led, hintFrom, ledOn, valueAt, HeadAt, HeadOrEnd, LongHead, PassedTo};
 ghost use Rattle.lookup.specs.Xcdr2.{idOf, toldBy, unitBy};
 use wire::cursor::Cursor;
 use wire::settings::Settings;
@@ -14,7 +14,7 @@ pub struct Ahead {
     // Where the value starts; 0: the header there is not the wanted one, or something is missing.
     pub value: usize,
     pub length: u64,
-    // Where the next header stands; 0: it is not known.
+    // Where the next header stands; near the end of the data, where none can, any place there.
     pub next: usize,
 }
 
@@ -29,34 +29,30 @@ fn found(value: usize, length: u64, next: usize) -> Ahead
 }
 
 // The search is to say.
-fn none() -> Ahead
+pub fn none() -> Ahead
     ensures { λ r. ⌜ r ≡ aheadOf 0 0 0 ⌝ }
 {
     found(0, 0, 0)
 }
 
-// Past a value, aligned to 4 from the origin; 0 where the data ends before. Each difference is taken before the sum that it allows.
+// Where the next header stands: past a value, aligned to 4 from the origin; the data's end where that is past it.
 fn past(s: &[u8], at: usize, size: u64, origin: usize) -> usize
-    requires { ⌜ (origin ≤ at) × (at ≤ length (now s)) ⌝ }
+    requires { ⌜ (origin ≤ at) × (at ≤ length (now s)) × (size ≤ 2 ^ 35) ⌝ }
     ensures { λ r. ⌜ PassedTo (now (s .entry)) (cursorAt at origin) size r ⌝ }
 {
-    let n = size as usize;
     let end = s.len();
-    if end - at < n {
-        return 0;
+    let to = at + (size as usize);
+    let next = to + (4 - (to - origin) % 4) % 4;
+    if end < next {
+        return end;
     }
-    let to = at + n;
-    let padding = (4 - (to - origin) % 4) % 4;
-    if end - to < padding {
-        return 0;
-    }
-    to + padding
+    next
 }
 
 // The length that a length code below 4 tells.
 fn told(lc: u64) -> u64
     requires { ⌜ lc < 4 ⌝ }
-    ensures { λ r. ⌜ (r ≡ toldBy lc) × (0 < r) ⌝ }
+    ensures { λ r. ⌜ (r ≡ toldBy lc) × (0 < r) × (r ≤ 8) ⌝ }
 {
     match lc {
         0 => 1,
@@ -72,9 +68,10 @@ fn unit(lc: u64) -> u64
     ensures { λ r. ⌜ (r ≡ unitBy lc) × (r ≤ 8) ⌝ }
 {
     match lc {
+        4 => 1,
+        5 => 1,
         6 => 4,
-        7 => 8,
-        _ => 1,
+        _ => 8,
     }
 }
 
@@ -121,14 +118,11 @@ fn xcdr2(s: &[u8], set: Settings, wanted: u64, pos: usize, origin: usize) -> Ahe
     found(head, length, next)
 }
 
-// A header of XCDR1. The end marker's id, and what lies above it, is left to the search.
+// A header of XCDR1. An empty one is left to the search, and so is the end marker.
 fn xcdr1(s: &[u8], set: Settings, wanted: u64, pos: usize, origin: usize) -> Ahead
     requires { ⌜ HeadAt (now s) pos origin × (set .version ≡ Version.Xcdr1) ⌝ }
     ensures { λ r. ⌜ AheadIs (now (s .entry)) set wanted (cursorAt pos origin) r ⌝ }
 {
-    if 0x3F02 <= wanted {
-        return none();
-    }
     let order = set.order;
     let pid = wire::number::from_bytes(s, order, pos, 2) % 16384;
     if pid != wanted {
@@ -143,33 +137,6 @@ fn xcdr1(s: &[u8], set: Settings, wanted: u64, pos: usize, origin: usize) -> Ahe
     found(value, length, next)
 }
 
-// What the header at the cursor says of the wanted member. One that would stand after padding is left to the search, so here no place
-// but the next header's has to be aligned.
-pub fn look(s: &[u8], set: Settings, wanted: u32, at: Cursor) -> Ahead
-    ensures { λ r. ⌜ AheadIs (now (s .entry)) set wanted at r ⌝ }
-{
-    let version = set.version;
-    let pos = at.pos;
-    let origin = at.origin;
-    let end = s.len();
-    if end < 4 {
-        return none();
-    }
-    if end - 4 < pos {
-        return none();
-    }
-    if pos < origin {
-        return none();
-    }
-    if (pos - origin) % 4 != 0 {
-        return none();
-    }
-    match version {
-        Version::Xcdr1 => xcdr1(s, set, wanted as u64, pos, origin),
-        Version::Xcdr2 => xcdr2(s, set, wanted as u64, pos, origin),
-    }
-}
-
 // Where a found value is read.
 pub fn value_at(version: Version, pos: usize, origin: usize) -> Cursor
     ensures { λ r. ⌜ r ≡ valueAt version pos origin ⌝ }
@@ -180,34 +147,62 @@ pub fn value_at(version: Version, pos: usize, origin: usize) -> Cursor
     }
 }
 
-// Where the next header is looked for: a search for an id from `least` on, from the structure's start, is a search from `next`.
+// Where the next header is looked for: a search for an id from `least` on, from the structure's start, is a search from `next`, if a
+// header stands there.
 pub struct Hint {
     pub next: usize,
     pub least: u32,
 }
 
+fn from(next: usize) -> Hint
+    ensures { λ r. ⌜ r ≡ hintFrom next ⌝ }
+{
+    Hint { next, least: 0 }
+}
+
+// The hint before any member was found: the start itself, if a header may stand there.
+pub fn first(s: &[u8], back: Cursor) -> Hint
+    ensures { λ r. ⌜ ((set : Settings) → Led (now (s .entry)) set back (back .origin) r) × (r .least ≡ 0) ⌝ }
+{
+    let pos = back.pos;
+    let origin = back.origin;
+    let end = s.len();
+    if pos < origin {
+        return from(end);
+    }
+    if end < pos {
+        return from(end);
+    }
+    if (pos - origin) % 4 != 0 {
+        return from(end);
+    }
+    from(pos)
+}
+
 // The wanted member, if its header is where the hint says.
 pub fn sought(s: &[u8], set: Settings, wanted: u32, h: Hint, origin: usize) -> Ahead
+    requires { ⌜ HeadOrEnd (now s) (h .next) origin ⌝ }
     ensures { λ r. ⌜ Sought (now (s .entry)) set wanted h origin r ⌝ }
 {
+    let version = set.version;
+    let pos = h.next;
     if wanted < h.least {
         return none();
     }
-    if 65535 < wanted {
+    if s.len() - pos < 4 {
         return none();
     }
-    let next = h.next;
-    look(s, set, wanted, Cursor::new(next, origin))
+    match version {
+        Version::Xcdr1 => xcdr1(s, set, wanted as u64, pos, origin),
+        Version::Xcdr2 => xcdr2(s, set, wanted as u64, pos, origin),
+    }
 }
 
-// The hint after a member that was found. Where the next header is not known, the old one is as true as before.
-pub fn onward(h: Hint, found: Ahead, wanted: u32) -> Hint
-    requires { ⌜ wanted < 2 ^ 16 ⌝ }
-    ensures { λ r. ⌜ r ≡ ledOn h found wanted ⌝ }
+// The hint after a member that was found.
+pub fn onward(found: Ahead, wanted: u32) -> Hint
+    requires { ⌜ wanted < 2 ^ 28 ⌝ }
+    ensures { λ r. ⌜ r ≡ ledOn found wanted ⌝ }
 {
-    if found.next == 0 {
-        return h;
-    }
     Hint {
         next: found.next,
         least: wanted + 1,

@@ -12,10 +12,17 @@ pub enum Ending {
     Short(Shortage),
 }
 
-// The sum cannot wrap: the cursor is inside the data, and the value is a u32.
+// The sum cannot wrap: the cursor is inside the data, and the value is a u32. Most are there whole.
 pub fn dheader(s: &[u8], set: Settings, at: Cursor) -> Ending
     ensures { λ r. ⌜ r ≡ endingAt (now (s .entry)) set at ⌝ }
 {
+    let version = set.version;
+    let order = set.order;
+    let q = at.start(s, version, 4);
+    if q + 4 <= s.len() {
+        let n = wire::number::from_bytes(s, order, q, 4);
+        return Ending::At(q + 4 + (n as usize), Cursor::new(q + 4, at.origin));
+    }
     let size = wire::number::read_number(s, set, at, 4);
     match size {
         Number::Short(x) => Ending::Short(x),

@@ -20,10 +20,7 @@ use Rattle.book.specs.Places.{typeAt, typesBy, PlaceOf}
 use Rattle.values.specs.Header.{afterDheader}
 use Rattle.reader.specs.Value.{isSequence, primitiveElement, readAs}
 use Rattle.reader.specs.Member.{byLength, elementCount}
-use Rattle.lookup.specs.Dheader.{endingAt}
-use Rattle.lookup.specs.declared.dheader.Ending.{Ending}
-use Rattle.lookup.specs.declared.dheader.Ending.the-variants as ending
-use Rattle.reader.specs.Structure.{absorbs, begunBy}
+use Rattle.reader.specs.Structure.{absorbs}
 use Rattle.reader.specs.Nested.{isMutable, isStructure, contentsAt}
 
 pub sequence-is : (t : BookType) (k : ℕ) → k ≡ t .kind → eqb k 25 ≡ isSequence t
@@ -97,13 +94,3 @@ module _ (t : BookType) (k : ℕ) (e : k ≡ t .kind) (f : k ≡ 22) (y : Bool) 
   pub structure-mutable : y ≡ isStructure true t
   unfolding isStructure
   structure-mutable = rw (eq-eqb (t .kind) 22 (sym e ∙ f)) g
-
--- where the members of a Mutable structure begin
-module _ (s : List ℕ) (set : Settings) (c : Cursor) where
-  pub begun-first : set .version ≡ Xcdr1 → ending.At 0 c ≡ begunBy s set (set .version) c
-  unfolding begunBy
-  begun-first v = ap (λ (w : Version). begunBy s set w c) (sym v)
-
-  pub begun-second : set .version ≡ Xcdr2 → (g : Ending) → g ≡ endingAt s set c → g ≡ begunBy s set (set .version) c
-  unfolding begunBy
-  begun-second v g e = e ∙ ap (λ (w : Version). begunBy s set w c) (sym v)

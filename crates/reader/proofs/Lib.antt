@@ -1,4 +1,5 @@
 mod Asked
+mod BegunSteps
 pub mod ValueSteps
 pub mod MemberSteps
 pub mod PlainSteps

@@ -8,7 +8,7 @@ use native.Mathlib.Nat.{add-zero}
 use mir.Syntax.{w64}
 use mir.Val.{Fits}
 use lib.ListN.{length}
-use lib.Dec.{ltb, lit<}
+use lib.Dec.{ltb}
 use Rattle.ground.specs.Choice.{pick}
 use Rattle.wire.specs.declared.cursor.Cursor.{Cursor}
 use Rattle.wire.specs.declared.cursor.Shortage.{Shortage}
@@ -17,8 +17,8 @@ use Rattle.wire.specs.declared.cursor.Place.the-variants as place
 use Rattle.wire.specs.declared.settings.Settings.{Settings}
 use Rattle.wire.specs.declared.settings.Version.{Version}
 use Rattle.wire.specs.declared.settings.Version.the-variants.{Xcdr1, Xcdr2}
-use Rattle.wire.specs.Place.{cursorAt, broughtBack, alignTo, afterMove}
-use Rattle.wire.proofs.Moves.{align-twice, after-at, after-short}
+use Rattle.wire.specs.Place.{cursorAt, broughtBack, alignTo}
+use Rattle.wire.proofs.Moves.{after-at, after-short}
 use Rattle.book.specs.declared.member.Run.{Run}
 use Rattle.book.specs.Types.{BookType, Member}
 use Rattle.book.specs.Places.{memberAt, typeAt, listed, later, Started, After}
@@ -31,8 +31,9 @@ use Rattle.lookup.specs.Member.{locate, lookedUp, locatedV1, locatedV2}
 use Rattle.lookup.specs.declared.member.Located.{Located}
 use Rattle.lookup.specs.declared.member.Located.the-variants as located
 use Rattle.lookup.specs.declared.ahead.Hint.{Hint}
-use Rattle.lookup.specs.Ahead.{Led}
-use Rattle.lookup.proofs.Hints.{led-start, led-sentinel}
+use Rattle.lookup.specs.declared.ahead.Ahead.{Ahead}
+use Rattle.lookup.specs.Ahead.{Led, ledOn}
+use Rattle.lookup.proofs.Hints.{led-sentinel}
 use Rattle.table.specs.declared.rows.Row.{Row}
 use Rattle.table.specs.declared.out.Refusal.{Refusal}
 use Rattle.table.specs.declared.out.Out.{Out}
@@ -62,14 +63,16 @@ module _ (s : List ℕ) (set : Settings) (end : ℕ) (c : Cursor) (n : ℕ) (t :
   ended-second v d e = is-read {rs = []} (ap (λ (w : Version). endedBy s set w end c) v ∙ ap (λ (y : Cursor). read y []) (sym e)) (sym (add-zero n)) (filled-none t n)
 
 -- .. from where a hint says
-led-ended : (s : List ℕ) (set : Settings) (end : ℕ) (c : Cursor) (h : Hint) (v : Version) → set .version ≡ v → Led s set c (c .origin) h → h .least ≤ 0x3F02 → endedBy s set v end c ≡ endedBy s set v end (cursorAt (h .next) (c .origin))
+led-ended : (s : List ℕ) (set : Settings) (end : ℕ) (c : Cursor) (h : Hint) (v : Version) → set .version ≡ v → Led s set c (c .origin) h → h .next + 4 ≤ length s → h .least ≤ 0x3F02 → endedBy s set v end c ≡ endedBy s set v end (cursorAt (h .next) (c .origin))
 unfolding endedBy atSentinel
-led-ended s set end c h Xcdr1 v led l = rw (led-sentinel s set c (c .origin) h v led l)
-led-ended s set end c h Xcdr2 v led l = refl
+led-ended s set end c h Xcdr1 v led there l = rw (led-sentinel s set c (c .origin) h v led there l)
+led-ended s set end c h Xcdr2 v led there l = refl
 
-pub ended-led : (s : List ℕ) (set : Settings) (end : ℕ) (c : Cursor) (h : Hint) (n : ℕ) (t : List ℕ) (r : Out) (d : Cursor) → d ≡ cursorAt (h .next) (c .origin) → Led s set c (c .origin) h → h .least ≤ 0x3F02
+pub ended-led : (s : List ℕ) (set : Settings) (end : ℕ) (c : Cursor) (h : Hint) (n : ℕ) (t : List ℕ) (r : Out) (d : Cursor) → d ≡ cursorAt (h .next) (c .origin) → Led s set c (c .origin) h → 4 ≤ length s - h .next → h .least ≤ 0x3F02
     → Done (endedBy s set (set .version) end d) n t t r → Done (endedBy s set (set .version) end c) n t t r
-ended-led s set end c h n t r d e led l k = is-same (led-ended s set end c h (set .version) refl led l ∙ ap (endedBy s set (set .version) end) (sym e)) k
+ended-led s set end c h n t r d e led left l k =
+    let i = led .place .inside in
+    is-same (led-ended s set end c h (set .version) refl led (omega arith) l ∙ ap (endedBy s set (set .version) end) (sym e)) k
 
 -- every lookup comes back to where the first alignment left it
 came-back : (f : Located) (back : Cursor) → Type 0
@@ -131,11 +134,15 @@ module _ (types : List BookType) (s : List ℕ) (set : Settings) (nest : Nest) (
     pub record LookedSofar (whole : Outcome) (n : ℕ) (t u : List ℕ) (ms : Run) (m : ℕ) (h : Hint) : Type 0 where
       pub so : Sofar whole (then-end (mmembersOf types s set nest (listed b ms) back (room u m))) n t u m
       pub led : Led s set back (back .origin) h
+      pub aligned : 0 < ms .left → alignTo s (set .version) back 4 ≡ place.At back
 
-    pub looked-start : (t : List ℕ) (n : ℕ) (ms : Run) (h : Hint) → Started b at ms → h .next ≡ back .pos → LookedSofar (then-end (mmembersOf types s set nest (typeAt b at .members) back (room t n))) n t t ms n h
-    looked-start t n ms h e f = record { so = sofar-start (ap (λ (l : List Member). then-end (mmembersOf types s set nest l back (room t n))) (sym (e .is))); led = led-start s set back h f }
+    some-members : (ms : Run) → Started b at ms → 0 < ms .left → typeAt b at .members ≡ [] → ⊥
+    some-members ms e l f = absurd (let z : _≡_ {A = List Member} [] (memberAt b (ms .at) ∷ later b ms) = sym f ∙ sym (e .is) ∙ run-more b ms l in let y = ap length z in omega arith)
 
-    module _ (whole : Outcome) (n : ℕ) (t u : List ℕ) (ms : Run) (m : ℕ) (h : Hint) (inv : LookedSofar whole n t u ms m h) (aligned : alignTo s (set .version) back 4 ≡ place.At back) where
+    pub looked-start : (t : List ℕ) (n : ℕ) (ms : Run) (h : Hint) → Started b at ms → ((any : Settings) → Led s any back (back .origin) h) → ((typeAt b at .members ≡ [] → ⊥) → alignTo s (set .version) back 4 ≡ place.At back) → LookedSofar (then-end (mmembersOf types s set nest (typeAt b at .members) back (room t n))) n t t ms n h
+    looked-start t n ms h e f a = record { so = sofar-start (ap (λ (l : List Member). then-end (mmembersOf types s set nest l back (room t n))) (sym (e .is))); led = f set; aligned = λ l. a (some-members ms e l) }
+
+    module _ (whole : Outcome) (n : ℕ) (t u : List ℕ) (ms : Run) (m : ℕ) (h : Hint) (inv : LookedSofar whole n t u ms m h) where
       abbrev wanted : Member
       wanted = memberAt b (ms .at)
 
@@ -147,13 +154,13 @@ module _ (types : List BookType) (s : List ℕ) (set : Settings) (nest : Nest) (
         member-turn : (e : Cursor) (k : ℕ) (ns : Run) (g : Hint) → r ≡ Read e k → After b ms ns → Led s set back (back .origin) g → LookedSofar whole n t v ns k g
         member-turn e k ns g q a y =
             let w = was-read d q in
-            let f : e ≡ back = member-back aligned wanted (room u m) e (w .new) (w .is) in
+            let f : e ≡ back = member-back (inv .aligned l) wanted (room u m) e (w .new) (w .is) in
             let z : room u m - length (w .new) ≡ room v k = room-used u v m (length (w .new)) (w .filled .long) ∙ ap (room v) (sym (w .count)) in
             let o : mmembersOf types s set nest (listed b ms) back (room u m) ≡ prepend (w .new) (mmembersOf types s set nest (listed b ns) back (room v k)) =
             next ∙ then-read _ (w .is) ∙ ap (λ (x : Cursor). prepend (w .new) (mmembersOf types s set nest (later b ms) x (room u m - length (w .new)))) f
             ∙ ap (λ (x : ℕ). prepend (w .new) (mmembersOf types s set nest (later b ms) back x)) z
             ∙ ap (λ (x : List Member). prepend (w .new) (mmembersOf types s set nest x back (room v k))) (sym (a .is)) in
-            record { so = sofar-more (inv .so) (ap then-end o ∙ end-prepend (w .new) _) (w .count) (w .filled); led = y }
+            record { so = sofar-more (inv .so) (ap then-end o ∙ end-prepend (w .new) _) (w .count) (w .filled); led = y; aligned = λ k. inv .aligned l }
 
         -- where no hint was of use, the old one is kept
         pub looked-turn : (e : Cursor) (k : ℕ) (ns : Run) → r ≡ Read e k → After b ms ns → LookedSofar whole n t v ns k h
@@ -172,97 +179,49 @@ module _ (types : List BookType) (s : List ℕ) (set : Settings) (nest : Nest) (
           is-same (inv .so .same ∙ ap (prepend (inv .so .new)) o) (is-after (inv .so .filled) (rw (inv .so .count) at (d u)))
 
       -- a member that was found where the hint says
-      module _ (i size : ℕ) (c : Cursor) (named : i ≡ memberAt b (ms .at) .id) (there : locate s set i back ≡ located.Found size c back) where
+      module _ (size : ℕ) (c : Cursor) (there : locate s set (memberAt b (ms .at) .id) back ≡ located.Found size c back) where
         came : mmemberOf types s set nest wanted back (room u m) ≡ backTo back (foundOf types s set nest wanted size c (room u m))
         unfolding mmemberOf onLocated
-        came = ap (onLocated types s set nest wanted (room u m)) (ap (λ (x : ℕ). locate s set x back) (sym named) ∙ there)
+        came = ap (onLocated types s set nest wanted (room u m)) there
 
         module _ (l : 0 < ms .left) (v : List ℕ) (r : Out) (d : Done (foundOf types s set nest (memberAt b (ms .at)) size c (room u m)) m u v r) where
-          found-turn : (e : Cursor) (k : ℕ) (ns : Run) (g : Hint) → r ≡ Read e k → After b ms ns → Led s set back (back .origin) g → LookedSofar whole n t v ns k g
+          pub found-turn : (e : Cursor) (k : ℕ) (ns : Run) (g : Hint) → r ≡ Read e k → After b ms ns → Led s set back (back .origin) g → LookedSofar whole n t v ns k g
           unfolding backTo
           found-turn e k ns g q a y = let w = was-read d q in member-turn l v (Read back k) (is-read (came ∙ ap (backTo back) (w .is)) (w .count) (w .filled)) back k ns g refl a y
 
-          found-short : (x y : Shortage) → r ≡ Short x → y ≡ broughtBack x back → Done whole n t v (Short y)
+          pub found-short : (x y : Shortage) → r ≡ Short x → y ≡ broughtBack x back → Done whole n t v (Short y)
           unfolding backTo
           found-short x y q j = let w = was-short d q in looked-short l v (Short y) (is-short (came ∙ ap (backTo back) (w .is) ∙ ap short (sym j)) (w .filled)) y refl
 
-          found-refused : (k : Refusal) → r ≡ Refused k → Done whole n t v (Refused k)
+          pub found-refused : (k : Refusal) → r ≡ Refused k → Done whole n t v (Refused k)
           unfolding backTo
           found-refused k q = let w = was-refused d q in looked-refused l v (Refused k) (is-refused (came ∙ ap (backTo back) (w .is)) (w .filled)) k refl
 
-        module _ (v : List ℕ) (x : ℕ) (q : (f : Nest) (j : ℕ) → Quickly (foundOf types s set f (memberAt b (ms .at)) j c (room u m)) 1 m (c .origin) u v x) where
-          pub looked-quick : 0 < ms .left → 0 < x → (ns : Run) (g : Hint) → After b ms ns → Led s set back (back .origin) g → LookedSofar whole n t v ns (m + 1) g
-          looked-quick l y ns g a led = found-turn l v (Read (cursorAt x (c .origin)) (m + 1)) (quick-done 1 x y (q nest size)) (cursorAt x (c .origin)) (m + 1) ns g refl a led
+-- a table that is as long as it was
+pub same-long : {t u v : List ℕ} {whole rest o : Outcome} {n m : ℕ} {r : Out} → Sofar whole rest n t u m → Done o m u v r → length v ≡ length t
+same-long so d = d .table .long ∙ so .filled .long
 
-          pub looked-next : 0 < x → length t < 2 ^ 64 → Fits w64 (m + 1)
-          looked-next y k = let w = was-read (quick-done 1 x y (q nest size)) refl in omega (arith, w .count, filled-fits (w .filled), inv .so .filled .long)
+-- the value of a member that was found: taken where it stands, or left alone
+module _ (types : List BookType) (s : List ℕ) (set : Settings) (nest : Nest) (m : Member) (size : ℕ) (c : Cursor) (n : ℕ) (t u : List ℕ) (x : ℕ) (q : (f : Nest) (j : ℕ) → Quickly (foundOf types s set f m j c (room t n)) 1 n (c .origin) t u x) where
+  pub met-taken : 0 < x → (d : Cursor) → d ≡ cursorAt x (c .origin) → Done (foundOf types s set nest m size c (room t n)) n t u (Read d (n + 1))
+  met-taken y d e = rw e (quick-done 1 x y (q nest size))
 
-          -- what the quick way left alone
-          module _ (none : x ≤ 0) (l : 0 < ms .left) (w : List ℕ) (r : Out) (d : Done (foundOf types s set nest (memberAt b (ms .at)) size c (room v m)) m v w r) where
-            left : Done (foundOf types s set nest (memberAt b (ms .at)) size c (room u m)) m u w r
-            left = rw (quick-none _ 1 m (c .origin) u v x none (q nest size)) at d
+  pub met-left : x ≤ 0 → (v : List ℕ) (r : Out) → Done (foundOf types s set nest m size c (room u n)) n u v r → Done (foundOf types s set nest m size c (room t n)) n t v r
+  met-left none v r d = rw (quick-none _ 1 n (c .origin) t u x none (q nest size)) at d
 
-            pub looked-found : (e : Cursor) (k : ℕ) (ns : Run) (g : Hint) → r ≡ Read e k → After b ms ns → Led s set back (back .origin) g → LookedSofar whole n t w ns k g
-            looked-found = found-turn l w r left
+-- a row that was written has its place
+pub met-next : (types : List BookType) (s : List ℕ) (set : Settings) (m : Member) (c : Cursor) (n : ℕ) (t u : List ℕ) (x : ℕ) → ((f : Nest) (j : ℕ) → Quickly (foundOf types s set f m j c (room t n)) 1 n (c .origin) t u x) → 0 < x → length t < 2 ^ 64 → Fits w64 (n + 1)
+met-next types s set m c n t u x q y k = let w = was-read (quick-done 1 x y (q (λ ty id d r. read d []) 0)) refl in omega (arith, w .count, filled-fits (w .filled))
 
-            pub looked-fell : (y z : Shortage) → r ≡ Short y → z ≡ broughtBack y back → Done whole n t w (Short z)
-            looked-fell = found-short l w r left
+-- what is told of an id, of a cursor and of a hint that have names
+pub small-as : (i j k : ℕ) → i ≡ j → j < k → i < k
+small-as i j k e h = rw e h
 
-            pub looked-unfit : (k : Refusal) → r ≡ Refused k → Done whole n t w (Refused k)
-            looked-unfit = found-refused l w r left
-
--- the members from any place: they align first, if there are any
-module _ (types : List BookType) (s : List ℕ) (set : Settings) (nest : Nest) (b : List ℕ) (at end : ℕ) (c : Cursor) (t : List ℕ) (n : ℕ) (ms : Run) (started : Started b at ms) where
-  abbrev looked : Outcome
-  looked = andThen (mmembersOf types s set nest (typeAt b at .members) c (room t n)) (λ e used. endedBy s set (set .version) end e)
-
-  by : (l : List Member) → listed b ms ≡ l → looked ≡ andThen (mmembersOf types s set nest l c (room t n)) (λ e used. endedBy s set (set .version) end e)
-  by l e = ap (λ (x : List Member). andThen (mmembersOf types s set nest x c (room t n)) (λ e used. endedBy s set (set .version) end e)) (sym (started .is) ∙ e)
-
-  pub mmembers-none : ms .left ≡ 0 → (r : Out) → ((u : List ℕ) → Done (endedBy s set (set .version) end c) n u u r) → Done looked n t t r
-  unfolding mmembersOf andThen prepend
-  mmembers-none l r d = is-same (by [] (run-none b ms (omega arith)) ∙ sym (prepend-nil (endedBy s set (set .version) end c))) (d t)
-
-  module _ (some : ms .left ≡ 0 → ⊥) (g : Place) (is : g ≡ alignTo s (set .version) c 4) where
-    more : listed b ms ≡ memberAt b (ms .at) ∷ later b ms
-    more = run-more b ms (omega arith)
-
-    member-short : (x : Shortage) → g ≡ place.Short x → (m : Member) → mmemberOf types s set nest m c (room t n) ≡ short x
-    unfolding mmemberOf onLocated locate
-    member-short x q m = ap (onLocated types s set nest m (room t n)) (after-short _ _ (sym is ∙ q))
-
-    pub mmembers-short : (x : Shortage) → g ≡ place.Short x → Done looked n t t (Short x)
-    unfolding mmembersOf
-    mmembers-short x q =
-        is-short
-        (by _ more ∙ ap (λ (o : Outcome). andThen o (λ e used. endedBy s set (set .version) end e)) (then-short (λ e used. mmembersOf types s set nest (later b ms) e (room t n - used)) (member-short x q (memberAt b (ms .at)))) ∙ then-short _ refl)
-        (filled-none t n)
-
-    same-member : (back : Cursor) → g ≡ place.At back → alignTo s (set .version) back 4 ≡ place.At back → (m : Member) → mmemberOf types s set nest m c (room t n) ≡ mmemberOf types s set nest m back (room t n)
-    unfolding mmemberOf locate
-    same-member back q al m = ap (λ (y : Place). onLocated types s set nest m (room t n) (afterMove located.Short y (λ d. lookedUp s set (set .version) (m .id) d))) (sym is ∙ q ∙ sym al)
-
-    pub mmembers-aligned : (back : Cursor) → g ≡ place.At back → alignTo s (set .version) back 4 ≡ place.At back → (u : List ℕ) (r : Out)
-        → Done (andThen (mmembersOf types s set nest (typeAt b at .members) back (room t n)) (λ e used. endedBy s set (set .version) end e)) n t u r → Done looked n t u r
-    unfolding mmembersOf
-    mmembers-aligned back q al u r d =
-        is-same
-        (by _ more ∙ ap (λ (o : Outcome). andThen o (λ e used. endedBy s set (set .version) end e)) members-same
-        ∙ ap (λ (x : List Member). andThen (mmembersOf types s set nest x back (room t n)) (λ e used. endedBy s set (set .version) end e)) (sym more ∙ started .is)) d
-      where
-        members-same : mmembersOf types s set nest (memberAt b (ms .at) ∷ later b ms) c (room t n) ≡ mmembersOf types s set nest (memberAt b (ms .at) ∷ later b ms) back (room t n)
-        members-same = ap (λ (o : Outcome). andThen o (λ e used. mmembersOf types s set nest (later b ms) e (room t n - used))) (same-member back q al (memberAt b (ms .at)))
-
--- what is aligned is aligned again
-pub aligned-again : (s : List ℕ) (v : Version) (c back : Cursor) → alignTo s v c 4 ≡ place.At back → alignTo s v back 4 ≡ place.At back
-aligned-again s v c back e = align-twice s v c 4 back (lit< tt) e
-
--- what is told of a cursor and of a hint that have names
 pub found-at : (s : List ℕ) (set : Settings) (i size : ℕ) (c d back : Cursor) → c ≡ d → locate s set i back ≡ located.Found size d back → locate s set i back ≡ located.Found size c back
 found-at s set i size c d back e f = f ∙ ap (λ (x : Cursor). located.Found size x back) (sym e)
 
-pub led-as : (s : List ℕ) (set : Settings) (back : Cursor) (o : ℕ) (g h : Hint) → g ≡ h → Led s set back o h → Led s set back o g
-led-as s set back o g h e l = rw e l
+pub led-on : (s : List ℕ) (set : Settings) (back : Cursor) (o : ℕ) (a : Ahead) (i j : ℕ) (g : Hint) → g ≡ ledOn a i → i ≡ j → Led s set back o (ledOn a j) → Led s set back o g
+led-on s set back o a i j g e f l = rw (e, f) l
 
 -- each member leaves fewer
 pub fewer : (b : List ℕ) (ms ns : Run) → 0 < ms .left → After b ms ns → ns .left < ms .left

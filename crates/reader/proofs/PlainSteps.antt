@@ -18,6 +18,10 @@ use Rattle.wire.specs.declared.settings.Settings.{Settings}
 use Rattle.kinds.specs.Kinds.{unsupportedMember, opens}
 use Rattle.book.specs.Types.{BookType, Member, optional, typeNo}
 use Rattle.book.specs.Places.{memberAt, typeAt, typesBy, PlaceOf}
+use Rattle.lookup.specs.declared.ahead.Ahead.{Ahead}
+use Rattle.lookup.specs.declared.ahead.Hint.{Hint}
+use Rattle.lookup.specs.Ahead.{aheadOf, Sought}
+use Rattle.lookup.proofs.Hints.{sought-none}
 use Rattle.table.specs.Rows.{room}
 use Rattle.table.specs.Outcome.{read}
 use Rattle.table.proofs.Filling.{filled-fits}
@@ -134,3 +138,11 @@ pub plain-next : (types : List BookType) (s : List ℕ) (set : Settings) (m : Me
 plain-next types s set m c t n u r q h l =
     let w = was-read (quick-done 1 r h (q (λ ty id d k. read d []))) refl in
     omega (arith, w .count, filled-fits (w .filled))
+
+-- the header where the hint says is asked for the member's own id
+module _ (b s : List ℕ) (set : Settings) (p : ℕ) (h : Hint) (origin : ℕ) (r : Ahead) where
+  pub ahead-none : r ≡ aheadOf 0 0 0 → Sought s set (memberAt b p .id) h origin r
+  ahead-none e = sought-none s set (memberAt b p .id) h origin r e
+
+  pub ahead-at : (i : ℕ) → i ≡ memberAt b p .id → Sought s set i h origin r → Sought s set (memberAt b p .id) h origin r
+  ahead-at i e k = rw e at k

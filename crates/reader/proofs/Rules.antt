@@ -5,7 +5,7 @@ use Rattle.reader.proofs.ValueSteps.{complex-start, complex-turn, compl
 use Rattle.reader.proofs.MemberSteps.{found-length, found-value, mmember-short, mmember-absent, mmember-read, mmember-fell, mmember-refused, optional-looked, optional-short, optional-bad, optional-absent, optional-present, fmember-optional, fmember-value}
 use Rattle.reader.proofs.StructureSteps.{fmembers-start, fmembers-turn, fmembers-ended, fmembers-short, fmembers-refused, fmembers-quick, fmembers-next, fmembers-end}
 use Rattle.reader.proofs.SeveralSteps.{several-start, several-end, flag-known, nested-structure, opened-structures, fmember-structure, found-structure}
-use Rattle.reader.proofs.LookedSteps.{looked-start, mmembers-none, mmembers-short, mmembers-aligned, aligned-again}
+use Rattle.reader.proofs.LookedSteps.{looked-start}
 use Rattle.reader.proofs.UnionSteps.{selected-absent, selected-unfit, selected-none, selected-looked, selected-plain, union-empty, funion-short, funion-refused, funion-read, munion-short, munion-refused, munion-read}
 use Rattle.reader.proofs.NestedSteps.{body-enum, body-munion, body-short, body-funion, nested-unfit, nested-deep, nested-full, nested-read, nested-short, nested-refused}
 
@@ -17,7 +17,7 @@ pub ruleset listed-laws = (list-short, list-got)
 
 pub ruleset value-laws = (value-none, value-unsupported, value-nested, value-list, value-scalar)
 
-pub ruleset found-laws = (found-length, found-value, found-structure)
+pub ruleset found-laws = (found-length, found-value)
 
 pub ruleset mmember-laws = (mmember-short, mmember-absent, mmember-read, mmember-fell, mmember-refused)
 
@@ -31,7 +31,7 @@ pub ruleset fstruct-laws = (several-start, several-end)
 
 pub ruleset mstruct-laws = (several-start, several-end)
 
-pub ruleset mmembers-laws = (mmembers-none, mmembers-short, mmembers-aligned, aligned-again)
+pub ruleset met-laws = (found-structure, row-next)
 
 pub ruleset mrun-laws = (looked-start, row-next)
 

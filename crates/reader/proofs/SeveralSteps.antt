@@ -24,7 +24,6 @@ use Rattle.wire.proofs.Moves.{after-at, after-short}
 use Rattle.kinds.specs.Kinds.{unsupportedMember, opens}
 use Rattle.book.specs.Types.{BookType, Member, optional, typeNo}
 use Rattle.book.specs.Places.{memberAt, typeAt, typesBy, PlaceOf}
-use Rattle.lookup.specs.Dheader.{endingAt}
 use Rattle.lookup.specs.declared.dheader.Ending.{Ending}
 use Rattle.lookup.specs.declared.dheader.Ending.the-variants as ending
 use Rattle.table.specs.declared.rows.Row.{Row}
@@ -38,7 +37,8 @@ use Rattle.table.proofs.Filling.{filled-none, filled-below, filled-row, full-fi
 use Rattle.table.proofs.Outcomes.{is-read, is-short, is-refused, is-same, no-room, some-room, was-read, was-short, was-refused, then-read, then-short, then-refused, Sofar, sofar-start, sofar-more, sofar-read, sofar-short, sofar-refused}
 use Rattle.reader.specs.Value.{Nest, isSequence, primitiveElement, openedFrom, valueOf}
 use Rattle.reader.specs.Member.{byLength, foundBy, foundOf, fmemberBy, fmemberOf}
-use Rattle.reader.specs.Structure.{fmembersOf, mmembersOf, begunBy, endedBy, onEnding, mstructBy}
+use Rattle.reader.specs.Structure.{fmembersOf, mmembersOf, begunBy, alignedFor, endedBy, mstructBy}
+use Rattle.reader.proofs.BegunSteps.{begun-short, begun-at}
 use Rattle.reader.specs.Nested.{isMutable, isStructure, contentsAt, asFinal, asMutable, bodyBy, bodyOf, structureBody, structureOf, severalOf, openedIf, nestedAt}
 
 -- ---- a run of structures
@@ -116,25 +116,15 @@ module _ (types : List BookType) (s : List ℕ) (set : Settings) (nest : Nest) (
     unfolding structureBody
     final-body d q v r h = is-same (after-at _ _ (sym is ∙ q)) h
 
-  module _ (g : Ending) (is : g ≡ begunBy s set (set .version) c) where
-    begun-short : (v : Version) (x : Shortage) → begunBy s set v c ≡ ending.Short x → mstructBy types s set nest v t c (room u n) ≡ short x
-    unfolding mstructBy begunBy onEnding
-    begun-short Xcdr1 x e = absurd (let z : _≡_ {A = ℕ} 0 1 = cc in omega arith)
-    begun-short Xcdr2 x e = rw e
-
-    begun-at : (v : Version) (end : ℕ) (d : Cursor) → begunBy s set v c ≡ ending.At end d → mstructBy types s set nest v t c (room u n) ≡ andThen (mmembersOf types s set nest (t .members) d (room u n)) (λ e used. endedBy s set v end e)
-    unfolding mstructBy begunBy onEnding endedBy
-    begun-at Xcdr1 end d e = let z : c ≡ d = cc in rw z
-    begun-at Xcdr2 end d e = rw e
-
+  module _ (g : Ending) (is : g ≡ alignedFor s set (begunBy s set (set .version) c) (t .members)) where
     pub mutable-short : (x : Shortage) → g ≡ ending.Short x → Done (structureBody types s set nest true t c (room u n)) n u u (Short x)
     unfolding structureBody
-    mutable-short x q = is-short (begun-short (set .version) x (sym is ∙ q)) (filled-none u n)
+    mutable-short x q = is-short (begun-short types s set nest t c (room u n) (set .version) _ refl x (sym is ∙ q)) (filled-none u n)
 
     pub mutable-body : (end : ℕ) (d : Cursor) → g ≡ ending.At end d → (v : List ℕ) (r : Out) → Done (andThen (mmembersOf types s set nest (t .members) d (room u n)) (λ e used. endedBy s set (set .version) end e)) n u v r
         → Done (structureBody types s set nest true t c (room u n)) n u v r
     unfolding structureBody
-    mutable-body end d q v r h = is-same (begun-at (set .version) end d (sym is ∙ q)) h
+    mutable-body end d q v r h = is-same (begun-at types s set nest t c (room u n) (set .version) _ refl end d (sym is ∙ q)) h
 
 -- ---- the values that structures are
 then-nil : (o : Outcome) → andThen o (λ d used. read d []) ≡ o

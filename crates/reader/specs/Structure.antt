@@ -7,7 +7,7 @@ use Rattle.wire.specs.declared.cursor.Cursor.{Cursor}
 use Rattle.wire.specs.declared.settings.Settings.{Settings}
 use Rattle.wire.specs.declared.settings.Version.{Version}
 use Rattle.wire.specs.declared.settings.Version.the-variants.{Xcdr1, Xcdr2}
-use Rattle.wire.specs.Place.{cursorAt, afterMove}
+use Rattle.wire.specs.Place.{cursorAt, alignTo, afterMove}
 use Rattle.book.specs.Types.{BookType, Member}
 use Rattle.lookup.specs.Xcdr1.{seekToSentinel}
 use Rattle.lookup.specs.Dheader.{endingAt}
@@ -30,6 +30,12 @@ module _ (s : List ℕ) (set : Settings) where
   unfoldable pub begunBy : Version → Cursor → Ending
   begunBy Xcdr1 c = ending.At 0 c
   begunBy Xcdr2 c = endingAt s set c
+
+  -- .. and the first lookup's alignment, "align 4 (if short, the member answers 1)"; a structure without members has none
+  unfoldable pub alignedFor : Ending → List Member → Ending
+  alignedFor (ending.Short x) ms = ending.Short x
+  alignedFor (ending.At end c) [] = ending.At end c
+  alignedFor (ending.At end c) (m ∷ ms) = afterMove ending.Short (alignTo s (set .version) c 4) (λ d. ending.At end d)
 
   unfoldable pub endedBy : Version → ℕ → Cursor → Outcome
   endedBy Xcdr1 end c = atSentinel c

@@ -2,11 +2,12 @@
 // that is opened.
 ghost use mathlib.Core.Path.{_≡_};
 ghost use mathlib.Core.Bool.{true, false};
-ghost use Rattle.book.specs.Places.{typeAt};
+ghost use mathlib.Core.List.{[]};
+ghost use Rattle.book.specs.Places.{memberAt, typeAt};
 ghost use Rattle.table.specs.Rows.{row, room};
 ghost use Rattle.table.specs.Outcome.{Done};
 ghost use Rattle.wire.specs.Place.{alignTo};
-ghost use Rattle.reader.specs.Cycle.{nest, bodyIn, fmembersIn, mmembersIn, structuresIn};
+ghost use Rattle.reader.specs.Cycle.{nest, bodyIn, fmembersIn, foundIn, mmembersIn, structuresIn};
 
 pub mod member;
 pub mod plain;
@@ -18,9 +19,9 @@ use book::index::place;
 use book::member::after;
 use book::member::id;
 use book::member::members;
-use lookup::ahead::Hint;
+use book::member::type_index;
+use lookup::ahead::first;
 use lookup::ahead::onward;
-use lookup::ahead::sought;
 use lookup::ahead::value_at;
 use lookup::dheader::Ending;
 use table::out::Out;
@@ -246,9 +247,9 @@ pub fn mstruct(
         if is_full(t, m) {
             return Out::Refused(Refusal::NoRoom);
         }
-        match types::ending(s, set, Cursor { pos, origin }) {
+        match types::begun(book, s, set, at, Cursor { pos, origin }) {
             Ending::Short(x) => return Out::Short(x),
-            Ending::At(end, d) => match mmembers(book, index, s, set, t, at, end, d, m + 1, depth) {
+            Ending::At(end, d) => match mrun(book, index, s, set, t, at, end, d, m + 1, depth) {
                 Out::Short(x) => return Out::Short(x),
                 Out::Refused(why) => return Out::Refused(why),
                 Out::Read(e, k) => {
@@ -265,34 +266,8 @@ pub fn mstruct(
     Out::Read(Cursor { pos, origin }, m)
 }
 
-// The members of a Mutable structure, and its end. A structure without members does not even align.
-pub fn mmembers(
-    book: &[u8],
-    index: &[u32],
-    s: &[u8],
-    set: Settings,
-    t: &mut [u64],
-    at: usize,
-    end: usize,
-    c: Cursor,
-    n: usize,
-    depth: usize,
-) -> Out
-    ensures { λ r. ⌜ Done (mmembersIn (now (book .entry)) (now (index .entry)) (now (s .entry)) set depth (typeAt (now (book .entry)) at) end c (room (now (t .entry)) n)) n (now (t .entry)) (now (t .exit)) r ⌝ }
-{
-    let version = set.version;
-    let ms = members(book, at);
-    if ms.left == 0 {
-        return types::ended(s, set, end, c, n);
-    }
-    match c.align(s, version, 4) {
-        Place::Short(x) => Out::Short(x),
-        Place::At(back) => mrun(book, index, s, set, t, at, end, back, n, depth),
-    }
-}
-
-// Each member by its lookup, from the place that every lookup comes back to. Where members stand in the order of their ids, the next
-// header is the one that is wanted.
+// The members of a Mutable structure, each by its lookup, from the place that every lookup comes back to; and its end. Where members stand
+// in the order of their ids, the next header is the one that is wanted.
 pub fn mrun(
     book: &[u8],
     index: &[u32],
@@ -305,49 +280,84 @@ pub fn mrun(
     n: usize,
     depth: usize,
 ) -> Out
-    requires { ⌜ alignTo (now s) (set .version) back 4 ≡ Place.At back ⌝ }
+    requires { ⌜ ((typeAt (now book) at .members ≡ [] → ⊥) → alignTo (now s) (set .version) back 4 ≡ Place.At back) ⌝ }
     ensures { λ r. ⌜ Done (mmembersIn (now (book .entry)) (now (index .entry)) (now (s .entry)) set depth (typeAt (now (book .entry)) at) end back (room (now (t .entry)) n)) n (now (t .entry)) (now (t .exit)) r ⌝ }
 {
     let version = set.version;
     let origin = back.origin;
     let mut ms = members(book, at);
-    let mut h = Hint {
-        next: back.pos,
-        least: 0,
-    };
+    let mut h = first(s, back);
     let mut m = n;
     while 0 < ms.left {
         let p = ms.at;
-        let wanted = id(book, p);
-        let ahead = sought(s, set, wanted, h, origin);
+        let ahead = plain::ahead(book, s, set, p, h, origin);
         let v = ahead.value;
         if 0 < v {
+            let wanted = id(book, p);
             let c = value_at(version, v, origin);
-            h = onward(h, ahead, wanted);
-            let past = plain::take_found(book, index, s, set, t, p, c, m);
-            if 0 < past {
-                m += 1;
-                ms = after(book, ms);
-                continue;
-            }
-            match member::found(book, index, s, set, t, p, ahead.length, c, m, depth) {
+            h = onward(ahead, wanted);
+            match met(
+                book,
+                index,
+                s,
+                set,
+                t,
+                p,
+                wanted as u64,
+                ahead.length,
+                c,
+                m,
+                depth,
+            ) {
                 Out::Read(_, k) => {
                     m = k;
                     ms = after(book, ms);
-                    continue;
                 }
                 Out::Short(x) => return Out::Short(x.back_to(back)),
                 Out::Refused(k) => return Out::Refused(k),
             }
-        }
-        match member::mmember(book, index, s, set, t, p, back, m, depth) {
-            Out::Read(_, k) => {
-                m = k;
+        } else {
+            match member::mmember(book, index, s, set, t, p, back, m, depth) {
+                Out::Read(_, k) => {
+                    m = k;
+                    ms = after(book, ms);
+                }
+                Out::Short(x) => return Out::Short(x),
+                Out::Refused(k) => return Out::Refused(k),
             }
-            Out::Short(x) => return Out::Short(x),
-            Out::Refused(k) => return Out::Refused(k),
         }
-        ms = after(book, ms);
     }
     types::ended_from(s, set, end, back, h, m)
+}
+
+// The value of a member that was found where the hint says, as `found` reads it. Most are taken where they stand; and a Mutable structure is
+// called for from here, since the compiler takes this into the loop, where nothing else calls it.
+pub fn met(
+    book: &[u8],
+    index: &[u32],
+    s: &[u8],
+    set: Settings,
+    t: &mut [u64],
+    p: usize,
+    i: u64,
+    length: u64,
+    c: Cursor,
+    n: usize,
+    depth: usize,
+) -> Out
+    requires { ⌜ i ≡ memberAt (now book) p .id ⌝ }
+    ensures { λ r. ⌜ Done (foundIn (now (book .entry)) (now (index .entry)) (now (s .entry)) set depth (memberAt (now (book .entry)) p) length c (room (now (t .entry)) n)) n (now (t .entry)) (now (t .exit)) r ⌝ }
+{
+    let past = plain::take_found(book, index, s, set, t, p, i, c, n);
+    if 0 < past {
+        return Out::Read(Cursor::new(past, c.origin), n + 1);
+    }
+    let ty = type_index(book, p);
+    let q = place(book, index, ty);
+    if 0 < depth {
+        if types::is_mutable_structure(book, q) {
+            return mstruct(book, index, s, set, t, q, ty, i, 1, c, n, depth - 1);
+        }
+    }
+    member::found(book, index, s, set, t, p, length, c, n, depth)
 }

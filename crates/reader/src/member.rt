@@ -5,11 +5,9 @@ ghost use Rattle.table.specs.Rows.{room};
 ghost use Rattle.table.specs.Outcome.{Done};
 ghost use Rattle.reader.specs.Cycle.{foundIn, mmemberIn, optionalIn, fmemberIn};
 use crate::fstruct;
-use crate::mstruct;
 use crate::types::by_length;
 use crate::types::element_count;
 use crate::types::is_final;
-use crate::types::is_mutable_structure;
 use crate::value::elements;
 use crate::value::value;
 use book::index::place;
@@ -166,10 +164,5 @@ pub fn found(
         );
     }
     let i = id(book, p) as u64;
-    if is_mutable_structure(book, q) {
-        if 0 < depth {
-            return mstruct(book, index, s, set, t, q, ty, i, 1, c, n, depth - 1);
-        }
-    }
     value(book, index, s, set, t, ty, i, c, n, depth)
 }

@@ -1,16 +1,22 @@
-// The quick way for a member: most are numbers, booleans or texts, and there whole.
+// The quick way for a member: most are numbers, booleans or texts, and there whole; and most headers stand where they are looked for first.
 ghost use Rattle.book.specs.Places.{memberAt, typesBy};
 ghost use Rattle.table.specs.Rows.{room};
 ghost use Rattle.values.specs.Quick.{Quickly};
 ghost use Rattle.reader.specs.Value.{Nest};
 ghost use Rattle.reader.specs.Member.{fmemberOf, foundOf};
 ghost use Prim.Native.Nat.{ℕ};
+ghost use mathlib.Core.Path.{_≡_};
+ghost use Rattle.lookup.specs.Ahead.{HeadOrEnd, Sought};
 use crate::types::read_as;
 use book::bytes::left_at;
 use book::index::place;
 use book::member::id;
 use book::member::is_optional;
 use book::member::type_index;
+use lookup::ahead::Ahead;
+use lookup::ahead::Hint;
+use lookup::ahead::none;
+use lookup::ahead::sought;
 use wire::cursor::Cursor;
 use wire::settings::Settings;
 
@@ -46,7 +52,7 @@ pub fn take(
     values::quick::take(s, set, t, kind, id(book, p) as u64, c, n)
 }
 
-// The same for a member that was found.
+// The same for a member that was found, whose id is known.
 pub fn take_found(
     book: &[u8],
     index: &[u32],
@@ -54,9 +60,11 @@ pub fn take_found(
     set: Settings,
     t: &mut [u64],
     p: usize,
+    i: u64,
     c: Cursor,
     n: usize,
 ) -> usize
+    requires { ⌜ i ≡ memberAt (now book) p .id ⌝ }
     ensures { λ r. ⌜ ((nest : Nest) (length : ℕ) → Quickly (foundOf (typesBy (now (book .entry)) (now (index .entry))) (now (s .entry)) set nest (memberAt (now (book .entry)) p) length c (room (now (t .entry)) n)) 1 n (c .origin) (now (t .entry)) (now (t .exit)) r) ⌝ }
 {
     if left_at(book, p) < 9 {
@@ -71,5 +79,16 @@ pub fn take_found(
         return 0;
     }
     let kind = read_as(book, at);
-    values::quick::take_found(s, set, t, kind, id(book, p) as u64, c, n)
+    values::quick::take_found(s, set, t, kind, i, c, n)
+}
+
+// What the header where the hint says tells of the member at p, if that is there whole: so no byte of it is asked for again.
+pub fn ahead(book: &[u8], s: &[u8], set: Settings, p: usize, h: Hint, origin: usize) -> Ahead
+    requires { ⌜ HeadOrEnd (now s) (h .next) origin ⌝ }
+    ensures { λ r. ⌜ Sought (now (s .entry)) set (memberAt (now (book .entry)) p .id) h origin r ⌝ }
+{
+    if left_at(book, p) < 9 {
+        return none();
+    }
+    sought(s, set, id(book, p), h, origin)
 }

@@ -3,15 +3,17 @@ ghost use mathlib.Core.Path.{_≡_};
 ghost use Rattle.book.specs.Places.{memberAt, typeAt, typesBy};
 ghost use Rattle.reader.specs.Value.{isSequence, primitiveElement, readAs};
 ghost use Rattle.reader.specs.Member.{byLength, elementCount};
-ghost use Rattle.reader.specs.Structure.{absorbs, begunBy, endedBy};
+ghost use Rattle.reader.specs.Structure.{absorbs, alignedFor, begunBy, endedBy};
 ghost use Rattle.reader.specs.Nested.{isMutable, isStructure, contentsAt};
 ghost use mathlib.Core.Bool.{true, false};
 ghost use Rattle.table.specs.Outcome.{Done};
 ghost use mathlib.Core.List.{List};
 ghost use Prim.Native.Nat.{ℕ};
 ghost use Rattle.lookup.specs.Ahead.{Led};
+ghost use Rattle.lookup.specs.Dheader.{endingAt};
 use book::bytes::left_at;
 use book::index::place;
+use book::member::member_count;
 use book::types::bound;
 use book::types::element;
 use book::types::extensibility;
@@ -137,14 +139,43 @@ pub fn contents_at(book: &[u8], s: &[u8], set: Settings, at: usize, c: Cursor) -
     Place::At(c)
 }
 
-// What stands before the members of a Mutable structure: a DHEADER in XCDR2, which tells where it ends.
-pub fn ending(s: &[u8], set: Settings, c: Cursor) -> Ending
-    ensures { λ r. ⌜ r ≡ begunBy (now (s .entry)) set (set .version) c ⌝ }
+// The first lookup aligns to 4; a structure without members does not.
+fn aligned(book: &[u8], s: &[u8], set: Settings, at: usize, end: usize, c: Cursor) -> Ending
+    ensures { λ r. ⌜ r ≡ alignedFor (now (s .entry)) set (Ending.At end c) (typeAt (now (book .entry)) at .members) ⌝ }
+{
+    let version = set.version;
+    if member_count(book, at) == 0 {
+        return Ending::At(end, c);
+    }
+    match c.align(s, version, 4) {
+        Place::Short(x) => Ending::Short(x),
+        Place::At(d) => Ending::At(end, d),
+    }
+}
+
+// Where the members of a Mutable structure begin in XCDR2: after a DHEADER, which tells where it ends.
+fn after_its_dheader(book: &[u8], s: &[u8], set: Settings, at: usize, c: Cursor) -> Ending
+    ensures { λ r. ⌜ r ≡ alignedFor (now (s .entry)) set (endingAt (now (s .entry)) set c) (typeAt (now (book .entry)) at .members) ⌝ }
+{
+    match dheader(s, set, c) {
+        Ending::Short(x) => Ending::Short(x),
+        Ending::At(end, d) => aligned(book, s, set, at, end, d),
+    }
+}
+
+// Where they begin. What follows a DHEADER is aligned already, unless the cursor was before its origin, where no reading is.
+pub fn begun(book: &[u8], s: &[u8], set: Settings, at: usize, c: Cursor) -> Ending
+    ensures { λ r. ⌜ r ≡ alignedFor (now (s .entry)) set (begunBy (now (s .entry)) set (set .version) c) (typeAt (now (book .entry)) at .members) ⌝ }
 {
     let version = set.version;
     match version {
-        Version::Xcdr1 => Ending::At(0, c),
-        Version::Xcdr2 => dheader(s, set, c),
+        Version::Xcdr1 => aligned(book, s, set, at, 0, c),
+        Version::Xcdr2 => {
+            if c.pos < c.origin {
+                return after_its_dheader(book, s, set, at, c);
+            }
+            dheader(s, set, c)
+        }
     }
 }
 
@@ -162,14 +193,23 @@ pub fn ended(s: &[u8], set: Settings, end: usize, c: Cursor, n: usize) -> Out
     }
 }
 
-// The same from where the hint says, which is nearer.
+// The same from where the hint says, which is nearer. XCDR2 asks nothing.
 pub fn ended_from(s: &[u8], set: Settings, end: usize, c: Cursor, h: Hint, n: usize) -> Out
     requires { ⌜ Led (now s) set c (c .origin) h ⌝ }
     ensures { λ r. ⌜ ((t : List ℕ) → Done (endedBy (now (s .entry)) set (set .version) end c) n t t r) ⌝ }
 {
-    if 0x3F02 < h.least {
-        return ended(s, set, end, c, n);
+    let version = set.version;
+    match version {
+        Version::Xcdr1 => {
+            let next = h.next;
+            if 0x3F02 < h.least {
+                return ended(s, set, end, c, n);
+            }
+            if s.len() - next < 4 {
+                return ended(s, set, end, c, n);
+            }
+            ended(s, set, end, Cursor::new(next, c.origin), n)
+        }
+        Version::Xcdr2 => Out::Read(Cursor::new(end, c.origin), n),
     }
-    let next = h.next;
-    ended(s, set, end, Cursor::new(next, c.origin), n)
 }

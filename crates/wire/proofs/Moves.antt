@@ -66,6 +66,11 @@ unfolding alignmentOf
 alignment-one Xcdr1 = refl
 alignment-one Xcdr2 = refl
 
+pub alignment-four : (v : Version) → alignmentOf v 4 ≡ 4
+unfolding alignmentOf
+alignment-four Xcdr1 = refl
+alignment-four Xcdr2 = refl
+
 pub gap-below : (from a : ℕ) → 0 < a → gapOf from a < a
 gap-below from a h = mod-lt _ h
 
@@ -148,6 +153,15 @@ aligned-none c a h = go (leb (c .origin) (c .pos)) refl
         let z : 0 ≡ paddingOf c a = padding-none c a l in
         sym (padding-none (moved c (paddingOf c a)) a (omega arith))
 
+-- where no padding is, the alignment stays; and where it stays, none is
+pub align-stays : (s : List ℕ) (v : Version) (d : Cursor) (size : ℕ) → d .pos ≤ length s → paddingOf d (alignmentOf v size) ≡ 0 → alignTo s v d size ≡ At d
+unfolding alignTo
+align-stays s v d size l y = rw y (sym (seek-at s d 0 (omega arith)) ∙ ap (λ (x : ℕ). At (cursorAt x (d .origin))) (add-zero (d .pos)))
+
+pub align-stayed : (s : List ℕ) (v : Version) (d : Cursor) (size : ℕ) → alignTo s v d size ≡ At d → paddingOf d (alignmentOf v size) ≡ 0
+unfolding alignTo
+align-stayed s v d size f = let k = seek-inv s d (paddingOf d (alignmentOf v size)) d f in omega (arith, ap (λ (x : Cursor). x .pos) (k .1))
+
 pub align-twice : (s : List ℕ) (v : Version) (c : Cursor) (size : ℕ) (d : Cursor) → 0 < size → alignTo s v c size ≡ At d → alignTo s v d size ≡ At d
 unfolding alignTo
 align-twice s v c size d h f =
@@ -156,7 +170,7 @@ align-twice s v c size d h f =
     let z : paddingOf (moved c (paddingOf c (alignmentOf v size))) (alignmentOf v size) ≡ 0 = aligned-none c (alignmentOf v size) (alignment-some v size (alignmentOf v size) h refl) in
     let y : paddingOf d (alignmentOf v size) ≡ 0 = rw (k .1) at z in
     let l : d .pos ≤ length s = omega (arith, k .0, ap (λ (x : Cursor). x .pos) (k .1)) in
-    rw y (sym (seek-at s d 0 (omega arith)) ∙ ap (λ (x : ℕ). At (cursorAt x (d .origin))) (add-zero (d .pos)))
+    align-stays s v d size l y
 
 -- what follows a move, by how it went
 module _ {A : Type 0} (short : Shortage → A) (next : Cursor → A) {p : Place} where

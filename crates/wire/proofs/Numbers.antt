@@ -5,6 +5,7 @@ use mathlib.Core.Bool.{true, false}
 use mathlib.Core.List.{List}
 use native.Mathlib.Omega.{arith}
 use lib.ListN.{length, getD}
+use lib.Dec.{lit<}
 use borrow.Author.Tests.{ne-eqb}
 use native.Mathlib.Nat.{add-zero}
 use Rattle.wire.specs.Place.{cursorAt, moved, alignmentOf, paddingOf, seekTo, alignTo}
@@ -22,7 +23,7 @@ use Rattle.wire.specs.declared.number.Float128.{Float128}
 use Rattle.wire.specs.declared.number.Float128.the-variants as float128
 use Rattle.wire.specs.declared.number.Boolean.{Boolean}
 use Rattle.wire.specs.declared.number.Boolean.the-variants as boolean
-use Rattle.wire.proofs.Moves.{seek-at, seek-inv, align-inv, padding-one, alignment-one}
+use Rattle.wire.proofs.Moves.{seek-at, seek-inv, align-inv, align-stays, align-stayed, align-twice, still-aligned, padding-one, alignment-one, alignment-four}
 use Rattle.wire.proofs.Digits.{one-byte, be-words, le-words, low-word, high-word}
 
 -- where the cursor stands
@@ -169,3 +170,28 @@ pub byte-there : (s : List ℕ) (set : Settings) (c : Cursor) → c .pos < lengt
 unfolding numberAt
 byte-there s set c h =
     read-there s set c 1 (c .pos) (getD s (c .pos) 0) (let e = padding-one c (alignmentOf (set .version) 1) (alignment-one (set .version)) in omega (arith, e)) (omega arith) (one-byte (set .order) s (c .pos))
+
+-- what follows a number of four bytes is aligned as that was, unless the cursor was before its origin
+module _ (s : List ℕ) (set : Settings) (c : Cursor) (n : ℕ) (d : Cursor) (after : c .origin ≤ c .pos) where
+  four-moved : (e : Cursor) → alignTo s (set .version) c 4 ≡ place.At e → (r : Place) → seekTo s e 4 ≡ r → onBytes s (set .order) (e .pos) 4 r ≡ number.Got n d → alignTo s (set .version) d 4 ≡ place.At d
+  unfolding onBytes
+  four-moved e a (place.Short x) f g = absurd (apart x n d g)
+  four-moved e a (place.At y) f g =
+      let k = seek-inv s e 4 y f in
+      let h : y ≡ d = cc in
+      let w : moved e 4 ≡ d = k .1 ∙ h in
+      let i = align-inv s (set .version) c 4 e a in
+      let z : paddingOf e (alignmentOf (set .version) 4) ≡ 0 = align-stayed s (set .version) e 4 (align-twice s (set .version) c 4 e (lit< tt) a) in
+      let four = alignment-four (set .version) in
+      let z4 : paddingOf e 4 ≡ 0 = rw four at z in
+      let y4 : paddingOf (moved e 4) 4 ≡ 0 = still-aligned e 4 (lit< tt) (omega (arith, i .0, i .2)) 4 refl z4 in
+      align-stays s (set .version) d 4 (omega (arith, k .0, ap (λ (x : Cursor). x .pos) w)) (rw (four, ← w) y4)
+
+  four-by : (r : Place) → alignTo s (set .version) c 4 ≡ r → onAligned s (set .order) 4 r ≡ number.Got n d → alignTo s (set .version) d 4 ≡ place.At d
+  unfolding onAligned numberHere
+  four-by (place.Short x) a g = absurd (apart x n d g)
+  four-by (place.At e) a g = four-moved e a (seekTo s e 4) refl g
+
+  pub four-aligned : readNumber s set c 4 ≡ number.Got n d → alignTo s (set .version) d 4 ≡ place.At d
+  unfolding readNumber
+  four-aligned g = four-by (alignTo s (set .version) c 4) refl g

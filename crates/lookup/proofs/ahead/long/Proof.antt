@@ -1,4 +1,4 @@
-use Rattle.lookup.proofs.Aheads.{ahead-back, ahead-long, ahead-none, long-fits}
+use Rattle.lookup.proofs.Aheads.{ahead-back, ahead-long, ahead-none, long-word, long-fits}
 use borrow.Author.Needs.{needs}
 use Rattle.lookup.proofs.ahead.long.Statement.{statement}
 use Rattle.lookup.proofs.ahead.long.Tie as tie
@@ -22,7 +22,7 @@ unit-requires : tie.Need-unit-requires
 unit-requires c κs = search needs
 
 mul-length : tie.Need-mul-length
-mul-length c = search (needs, long-fits)
+mul-length c = search (needs, long-word)
 
 none-requires-2 : tie.Need-none-requires-2
 none-requires-2 c κs = search needs
@@ -34,7 +34,7 @@ add-body : tie.Need-add-body
 add-body c = search needs
 
 past-requires : tie.Need-past-requires
-past-requires c κs = search needs
+past-requires c κs = search (needs, long-fits)
 
 found-requires : tie.Need-found-requires
 found-requires c κs = search needs

@@ -2,21 +2,21 @@ use Rattle.lookup.proofs.Aheads.{ahead-none, ahead1}
 use borrow.Author.Needs.{needs}
 use Rattle.lookup.proofs.ahead.xcdr1.Statement.{statement}
 use Rattle.lookup.proofs.ahead.xcdr1.Tie as tie
+use Rattle.lookup.proofs.ahead.xcdr1.Reads as reads
+use Rattle.lookup.proofs.ahead.xcdr1.Lts as lts
+use Rattle.lookup.proofs.ahead.found.Reads as found-reads
+use Rattle.lookup.proofs.ahead.none.Reads as none-reads
+use Rattle.lookup.proofs.ahead.past.Reads as past-reads
+use Rattle.wire.proofs.number.from_bytes.Reads as from-bytes-reads
+
+from-bytes-requires : tie.Need-from-bytes-requires
+from-bytes-requires c κs = search needs
 
 none-requires : tie.Need-none-requires
 none-requires c κs = search needs
 
 returns : tie.Need-returns
-returns c = search (needs, ahead-none)
-
-from-bytes-requires : tie.Need-from-bytes-requires
-from-bytes-requires c κs = search needs
-
-none-requires-2 : tie.Need-none-requires-2
-none-requires-2 c κs = search needs
-
-returns-2 : tie.Need-returns-2
-returns-2 c = search (needs, ahead-none)
+returns c = search (needs, ahead-none, ahead1)
 
 add-from-bytes : tie.Need-add-from-bytes
 add-from-bytes c = search needs
@@ -24,11 +24,11 @@ add-from-bytes c = search needs
 from-bytes-requires-2 : tie.Need-from-bytes-requires-2
 from-bytes-requires-2 c κs = search needs
 
-none-requires-3 : tie.Need-none-requires-3
-none-requires-3 c κs = search needs
+none-requires-2 : tie.Need-none-requires-2
+none-requires-2 c κs = search needs
 
-returns-3 : tie.Need-returns-3
-returns-3 c = search (needs, ahead-none)
+returns-2 : tie.Need-returns-2
+returns-2 c = search (needs, ahead-none, ahead1)
 
 add-value : tie.Need-add-value
 add-value c = search needs
@@ -39,23 +39,21 @@ past-requires c κs = search needs
 found-requires : tie.Need-found-requires
 found-requires c κs = search needs
 
-returns-4 : tie.Need-returns-4
-returns-4 c = search (needs, ahead1)
+returns-3 : tie.Need-returns-3
+returns-3 c = search (needs, ahead-none, ahead1)
 
 pub xcdr1-spec : {M : Type 1} → statement M
 xcdr1-spec =
     tie.close
     (tie.spec
+    from-bytes-requires
     none-requires
     returns
-    from-bytes-requires
-    none-requires-2
-    returns-2
     add-from-bytes
     from-bytes-requires-2
-    none-requires-3
-    returns-3
+    none-requires-2
+    returns-2
     add-value
     past-requires
     found-requires
-    returns-4)
+    returns-3)

@@ -6,7 +6,6 @@ use Rattle.reader.proofs.plain.take_found.Reads as reads
 use Rattle.reader.proofs.plain.take_found.Lts as lts
 use Rattle.book.proofs.bytes.left_at.Reads as left-at-reads
 use Rattle.book.proofs.index.place.Reads as place-reads
-use Rattle.book.proofs.member.id.Reads as id-reads
 use Rattle.book.proofs.member.type_index.Reads as type-index-reads
 use Rattle.reader.proofs.types.read_as.Reads as read-as-reads
 use Rattle.values.proofs.quick.take_found.Reads as take-found-reads
@@ -35,12 +34,6 @@ returns-3 c = search (needs, found-none, found-taken)
 read-as-requires : tie.Need-read-as-requires
 read-as-requires c κs = search needs
 
-id-requires : tie.Need-id-requires
-id-requires c κs = search needs
-
-cast-take-found : tie.Need-cast-take-found
-cast-take-found c = search needs
-
 take-found-requires : tie.Need-take-found-requires
 take-found-requires c κs = search needs
 
@@ -62,8 +55,6 @@ take-found-spec =
     left-at-requires-2
     returns-3
     read-as-requires
-    id-requires
-    cast-take-found
     take-found-requires
     same-length
     returns-4)

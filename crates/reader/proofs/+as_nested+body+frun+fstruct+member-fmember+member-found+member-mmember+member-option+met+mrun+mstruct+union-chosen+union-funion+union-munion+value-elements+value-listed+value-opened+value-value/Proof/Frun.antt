@@ -7,8 +7,8 @@ use Rattle.wire.specs.Place.{cursorAt}
 use borrow.Author.Needs.{needs}
 use Prim.Native.Nat.{ℕ}
 use Rattle.reader.proofs.frun.Reads as frun
-use Rattle.reader.proofs.+as_nested+body+frun+fstruct+member-fmember+member-found+member-mmember+member-option+mmembers+mrun+mstruct+union-chosen+union-funion+union-munion+value-elements+value-listed+value-opened+value-value.Lts-frun as lts
-use Rattle.reader.proofs.+as_nested+body+frun+fstruct+member-fmember+member-found+member-mmember+member-option+mmembers+mrun+mstruct+union-chosen+union-funion+union-munion+value-elements+value-listed+value-opened+value-value.Proof.Base.{frun-at, member·fmember-below}
+use Rattle.reader.proofs.+as_nested+body+frun+fstruct+member-fmember+member-found+member-mmember+member-option+met+mrun+mstruct+union-chosen+union-funion+union-munion+value-elements+value-listed+value-opened+value-value.Lts-frun as lts
+use Rattle.reader.proofs.+as_nested+body+frun+fstruct+member-fmember+member-found+member-mmember+member-option+met+mrun+mstruct+union-chosen+union-funion+union-munion+value-elements+value-listed+value-opened+value-value.Proof.Base.{frun-at, member·fmember-below}
 use Rattle.reader.proofs.member.fmember.Reads as member·fmember
 use Rattle.book.proofs.member.after.Reads as after-reads
 use Rattle.book.proofs.member.members.Reads as members-reads

@@ -18,8 +18,8 @@ use Rattle.reader.proofs.member.mmember.Reads as member·mmember
 use Rattle.reader.proofs.member.mmember.Kinds as member·mmember-kinds
 use Rattle.reader.proofs.member.option.Reads as member·option
 use Rattle.reader.proofs.member.option.Kinds as member·option-kinds
-use Rattle.reader.proofs.mmembers.Reads as mmembers
-use Rattle.reader.proofs.mmembers.Kinds as mmembers-kinds
+use Rattle.reader.proofs.met.Reads as met
+use Rattle.reader.proofs.met.Kinds as met-kinds
 use Rattle.reader.proofs.mrun.Reads as mrun
 use Rattle.reader.proofs.mrun.Kinds as mrun-kinds
 use Rattle.reader.proofs.mstruct.Reads as mstruct
@@ -63,8 +63,8 @@ abbrev pub μ-member·mmember : Measures 4 member·mmember-kinds.ps ℕ
 abbrev pub μ-member·option : Measures 4 member·option-kinds.ps ℕ
 μ-member·option κs a = 12 * a .1 .1 .1 .1 .1 .1 .1 .1 .0 + 7
 
-abbrev pub μ-mmembers : Measures 4 mmembers-kinds.ps ℕ
-μ-mmembers κs a = 12 * a .1 .1 .1 .1 .1 .1 .1 .1 .1 .0 + 10
+abbrev pub μ-met : Measures 4 met-kinds.ps ℕ
+μ-met κs a = 12 * a .1 .1 .1 .1 .1 .1 .1 .1 .1 .1 .0 + 8
 
 abbrev pub μ-mrun : Measures 4 mrun-kinds.ps ℕ
 μ-mrun κs a = 12 * a .1 .1 .1 .1 .1 .1 .1 .1 .1 .0 + 9
@@ -174,12 +174,11 @@ member·option-below t =
     (falls 4 member·option-kinds.ps _<_ μ-member·option t)
     member·option.Pre
 
-abbrev pub mmembers-at : ℕ → In 4 mmembers-kinds.ps
-mmembers-at t = and 4 mmembers-kinds.ps (is 4 mmembers-kinds.ps μ-mmembers t) mmembers.Pre
+abbrev pub met-at : ℕ → In 4 met-kinds.ps
+met-at t = and 4 met-kinds.ps (is 4 met-kinds.ps μ-met t) met.Pre
 
-abbrev pub mmembers-below : ℕ → In 4 mmembers-kinds.ps
-mmembers-below t =
-    and 4 mmembers-kinds.ps (falls 4 mmembers-kinds.ps _<_ μ-mmembers t) mmembers.Pre
+abbrev pub met-below : ℕ → In 4 met-kinds.ps
+met-below t = and 4 met-kinds.ps (falls 4 met-kinds.ps _<_ μ-met t) met.Pre
 
 abbrev pub mrun-at : ℕ → In 4 mrun-kinds.ps
 mrun-at t = and 4 mrun-kinds.ps (is 4 mrun-kinds.ps μ-mrun t) mrun.Pre

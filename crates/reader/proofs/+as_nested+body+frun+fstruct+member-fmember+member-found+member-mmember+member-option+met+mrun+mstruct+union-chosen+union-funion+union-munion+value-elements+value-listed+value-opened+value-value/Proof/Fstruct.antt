@@ -13,8 +13,8 @@ use Rattle.reader.proofs.SeveralSteps.{SeveralSofar, several-turn, seve
 use borrow.Author.Needs.{needs}
 use Prim.Native.Nat.{ℕ}
 use Rattle.reader.proofs.fstruct.Reads as fstruct
-use Rattle.reader.proofs.+as_nested+body+frun+fstruct+member-fmember+member-found+member-mmember+member-option+mmembers+mrun+mstruct+union-chosen+union-funion+union-munion+value-elements+value-listed+value-opened+value-value.Lts-fstruct as lts
-use Rattle.reader.proofs.+as_nested+body+frun+fstruct+member-fmember+member-found+member-mmember+member-option+mmembers+mrun+mstruct+union-chosen+union-funion+union-munion+value-elements+value-listed+value-opened+value-value.Proof.Base.{fstruct-at, frun-below}
+use Rattle.reader.proofs.+as_nested+body+frun+fstruct+member-fmember+member-found+member-mmember+member-option+met+mrun+mstruct+union-chosen+union-funion+union-munion+value-elements+value-listed+value-opened+value-value.Lts-fstruct as lts
+use Rattle.reader.proofs.+as_nested+body+frun+fstruct+member-fmember+member-found+member-mmember+member-option+met+mrun+mstruct+union-chosen+union-funion+union-munion+value-elements+value-listed+value-opened+value-value.Proof.Base.{fstruct-at, frun-below}
 use Rattle.reader.proofs.frun.Reads as frun
 use Rattle.reader.proofs.structure.Reads as structure-reads
 use Rattle.reader.proofs.types.contents_at.Reads as contents-at-reads

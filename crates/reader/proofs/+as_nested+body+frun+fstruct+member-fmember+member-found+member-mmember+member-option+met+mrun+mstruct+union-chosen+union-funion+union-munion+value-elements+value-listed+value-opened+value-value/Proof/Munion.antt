@@ -2,8 +2,8 @@
 use borrow.Author.Needs.{needs}
 use Prim.Native.Nat.{ℕ}
 use Rattle.reader.proofs.union.munion.Reads as union·munion
-use Rattle.reader.proofs.+as_nested+body+frun+fstruct+member-fmember+member-found+member-mmember+member-option+mmembers+mrun+mstruct+union-chosen+union-funion+union-munion+value-elements+value-listed+value-opened+value-value.Lts-union-munion as lts
-use Rattle.reader.proofs.+as_nested+body+frun+fstruct+member-fmember+member-found+member-mmember+member-option+mmembers+mrun+mstruct+union-chosen+union-funion+union-munion+value-elements+value-listed+value-opened+value-value.Proof.Base.{union·munion-at, member·mmember-below, union·chosen-below}
+use Rattle.reader.proofs.+as_nested+body+frun+fstruct+member-fmember+member-found+member-mmember+member-option+met+mrun+mstruct+union-chosen+union-funion+union-munion+value-elements+value-listed+value-opened+value-value.Lts-union-munion as lts
+use Rattle.reader.proofs.+as_nested+body+frun+fstruct+member-fmember+member-found+member-mmember+member-option+met+mrun+mstruct+union-chosen+union-funion+union-munion+value-elements+value-listed+value-opened+value-value.Proof.Base.{union·munion-at, member·mmember-below, union·chosen-below}
 use Rattle.reader.proofs.member.mmember.Reads as member·mmember
 use Rattle.reader.proofs.union.chosen.Reads as union·chosen
 use Rattle.book.proofs.member.members.Reads as members-reads

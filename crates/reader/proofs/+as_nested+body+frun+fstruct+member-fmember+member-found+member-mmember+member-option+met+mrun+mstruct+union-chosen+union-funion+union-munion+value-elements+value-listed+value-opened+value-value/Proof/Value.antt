@@ -2,8 +2,8 @@
 use borrow.Author.Needs.{needs}
 use Prim.Native.Nat.{ℕ}
 use Rattle.reader.proofs.value.value.Reads as value·value
-use Rattle.reader.proofs.+as_nested+body+frun+fstruct+member-fmember+member-found+member-mmember+member-option+mmembers+mrun+mstruct+union-chosen+union-funion+union-munion+value-elements+value-listed+value-opened+value-value.Lts-value-value as lts
-use Rattle.reader.proofs.+as_nested+body+frun+fstruct+member-fmember+member-found+member-mmember+member-option+mmembers+mrun+mstruct+union-chosen+union-funion+union-munion+value-elements+value-listed+value-opened+value-value.Proof.Base.{value·value-at, as-nested-below, value·listed-below}
+use Rattle.reader.proofs.+as_nested+body+frun+fstruct+member-fmember+member-found+member-mmember+member-option+met+mrun+mstruct+union-chosen+union-funion+union-munion+value-elements+value-listed+value-opened+value-value.Lts-value-value as lts
+use Rattle.reader.proofs.+as_nested+body+frun+fstruct+member-fmember+member-found+member-mmember+member-option+met+mrun+mstruct+union-chosen+union-funion+union-munion+value-elements+value-listed+value-opened+value-value.Proof.Base.{value·value-at, as-nested-below, value·listed-below}
 use Rattle.reader.proofs.as_nested.Reads as as-nested
 use Rattle.reader.proofs.value.listed.Reads as value·listed
 use Rattle.book.proofs.index.place.Reads as place-reads

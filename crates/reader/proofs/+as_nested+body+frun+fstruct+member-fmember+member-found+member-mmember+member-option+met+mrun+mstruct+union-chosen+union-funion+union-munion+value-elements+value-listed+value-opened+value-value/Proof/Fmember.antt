@@ -4,8 +4,8 @@ use Rattle.reader.proofs.SeveralSteps.{fmember-structure}
 use borrow.Author.Needs.{needs}
 use Prim.Native.Nat.{ℕ}
 use Rattle.reader.proofs.member.fmember.Reads as member·fmember
-use Rattle.reader.proofs.+as_nested+body+frun+fstruct+member-fmember+member-found+member-mmember+member-option+mmembers+mrun+mstruct+union-chosen+union-funion+union-munion+value-elements+value-listed+value-opened+value-value.Lts-member-fmember as lts
-use Rattle.reader.proofs.+as_nested+body+frun+fstruct+member-fmember+member-found+member-mmember+member-option+mmembers+mrun+mstruct+union-chosen+union-funion+union-munion+value-elements+value-listed+value-opened+value-value.Proof.Base.{member·fmember-at, fstruct-below, member·option-below, value·value-below}
+use Rattle.reader.proofs.+as_nested+body+frun+fstruct+member-fmember+member-found+member-mmember+member-option+met+mrun+mstruct+union-chosen+union-funion+union-munion+value-elements+value-listed+value-opened+value-value.Lts-member-fmember as lts
+use Rattle.reader.proofs.+as_nested+body+frun+fstruct+member-fmember+member-found+member-mmember+member-option+met+mrun+mstruct+union-chosen+union-funion+union-munion+value-elements+value-listed+value-opened+value-value.Proof.Base.{member·fmember-at, fstruct-below, member·option-below, value·value-below}
 use Rattle.reader.proofs.fstruct.Reads as fstruct
 use Rattle.reader.proofs.member.option.Reads as member·option
 use Rattle.reader.proofs.value.value.Reads as value·value

@@ -1,0 +1,33 @@
+use Rattle.reader.proofs.PlainSteps.{ahead-none, ahead-at}
+use borrow.Author.Needs.{needs}
+use Rattle.reader.proofs.plain.ahead.Statement.{statement}
+use Rattle.reader.proofs.plain.ahead.Tie as tie
+use Rattle.reader.proofs.plain.ahead.Reads as reads
+use Rattle.reader.proofs.plain.ahead.Lts as lts
+use Rattle.book.proofs.bytes.left_at.Reads as left-at-reads
+use Rattle.book.proofs.member.id.Reads as id-reads
+use Rattle.lookup.proofs.ahead.none.Reads as none-reads
+use Rattle.lookup.proofs.ahead.sought.Reads as sought-reads
+
+left-at-requires : tie.Need-left-at-requires
+left-at-requires c κs = search needs
+
+none-requires : tie.Need-none-requires
+none-requires c κs = search needs
+
+returns : tie.Need-returns
+returns c = search (needs, ahead-none, ahead-at)
+
+id-requires : tie.Need-id-requires
+id-requires c κs = search needs
+
+sought-requires : tie.Need-sought-requires
+sought-requires c κs = search needs
+
+returns-2 : tie.Need-returns-2
+returns-2 c = search (needs, ahead-none, ahead-at)
+
+pub ahead-spec : {M : Type 1} → statement M
+ahead-spec =
+    tie.close
+    (tie.spec left-at-requires none-requires returns id-requires sought-requires returns-2)
