@@ -80,16 +80,11 @@ free-fits t n e = full-fits t n (noRoom t n) refl e
 pub is-free : (t : List ℕ) (n : ℕ) (f : Bool) → f ≡ noRoom t n → f ≡ false → noRoom t n ≡ false
 is-free t n f is e = sym is ∙ e
 
--- a kind that is known
+-- what a number's function asks, of a kind that is known, and where the table is not full
 module _ (kind k : ℕ) (e : kind ≡ k) where
-  pub is-known : isNumber k ≡ true → isNumber kind ≡ true
-  is-known h = rw e h
-
-  pub stored-known : (x : ℕ) → x ≡ storedOf k → x ≡ storedOf kind
-  stored-known x h = rw e h
-
-  pub width-known : (x : ℕ) → x ≡ alignOf k → x ≡ alignOf kind
-  width-known x h = rw e h
+  pub number-asks : (y w : ℕ) → isNumber k ≡ true → y ≡ storedOf k → w ≡ alignOf k → (t : List ℕ) (n : ℕ) (f : Bool) → f ≡ noRoom t n → f ≡ false
+      → (noRoom t n ≡ false) × (isNumber kind ≡ true) × (y ≡ storedOf kind) × (w ≡ alignOf kind)
+  number-asks y w num stored wide t n f is free = (is-free t n f is free, rw e num, rw e stored, rw e wide)
 
 -- the code's test
 pub is-number : (kind : ℕ) → ((leb 2 kind && leb kind 14) && not (eqb kind 11)) ≡ isNumber kind
