@@ -10,6 +10,7 @@ use lib.ListN.{length}
 use lib.Dec.{eqb, ltb}
 use borrow.Author.Tests.{eq-eqb, ne-eqb}
 use Rattle.ground.specs.Choice.{pick}
+use Rattle.ground.proofs.Between.{past3}
 use Rattle.wire.specs.Place.{cursorAt}
 use Rattle.wire.specs.Number.{readNumber, ReadIs, afterNumber}
 use Rattle.wire.specs.declared.settings.Settings.{Settings}
@@ -49,9 +50,6 @@ unfolding lengthOf
 by-code s set v lc c is k r e f = rw (sym is ∙ e) f
 
 -- of eight codes the last is none of the others
-past3 : (lc : ℕ) → (lc ≡ 0 → ⊥) → (lc ≡ 1 → ⊥) → (lc ≡ 2 → ⊥) → (lc ≡ 3 → ⊥) → 3 < lc
-past3 lc n0 n1 n2 n3 = omega arith
-
 past6 : (lc : ℕ) → 3 < lc → (lc ≡ 4 → ⊥) → (lc ≡ 5 → ⊥) → (lc ≡ 6 → ⊥) → 6 < lc
 past6 lc h n4 n5 n6 = omega arith
 

@@ -9,6 +9,7 @@ use lib.Dec.{ltb, eqb}
 use borrow.Author.Tests.{ltb-true, ltb-false, eq-eqb, eqb-true}
 use Rattle.ground.specs.Choice.{both}
 use Rattle.ground.proofs.Tests.{either-way, neither-first, neither-second, and-both, below, above}
+use Rattle.ground.proofs.Between.{past3}
 use Rattle.wire.specs.Identifier.{settingsOf, sameBytes}
 use Rattle.wire.specs.declared.settings.Representation.{Representation}
 use Rattle.wire.specs.declared.settings.Representation.the-variants.{Unknown}
@@ -42,9 +43,6 @@ module _ (id : List ℕ) (k : ℕ) where
   unfolding sameBytes
   no-string e h f = let t : both (eqb first 0) (eqb second k) ≡ true = rw (eq-eqb first 0 e, eq-eqb second k f) in
       let z : _≡_ {A = ℕ} 0 1 = cc in omega arith
-
-past3 : (b : ℕ) → (b ≡ 0 → ⊥) → (b ≡ 1 → ⊥) → (b ≡ 2 → ⊥) → (b ≡ 3 → ⊥) → 3 < b
-past3 b n0 n1 n2 n3 = omega arith
 
 past11 : (b : ℕ) → 6 ≤ b → (b ≡ 6 → ⊥) → (b ≡ 7 → ⊥) → (b ≡ 8 → ⊥) → (b ≡ 9 → ⊥) → (b ≡ 10 → ⊥) → (b ≡ 11 → ⊥) → 11 < b
 past11 b h n6 n7 n8 n9 n10 n11 = omega arith
