@@ -22,7 +22,7 @@ use Rattle.wire.specs.declared.number.Number.the-variants as number
 use Rattle.wire.proofs.Moves.{seek-at, seek-inv}
 use Rattle.wire.proofs.Numbers.{read-inv, read-exact}
 use Rattle.text.specs.Unicode.{utf8, utf16, restGood}
-use Rattle.text.specs.Text.{part, judged, bytesHere, stringType, Units, short, units, andThen, readUnits, onUnits, unitsHere, wideHere, wstringType}
+use Rattle.text.specs.Text.{part, judged, bytesHere, stringType, Units, short, units, unitThen, readUnits, onUnits, unitsHere, wideHere, wstringType}
 use Rattle.text.specs.declared.string.Text.the-variants as text
 
 -- n pieces of this size from `start`, all in the data; the reading moved past them and kept its origin
@@ -80,8 +80,8 @@ module _ (s : List ℕ) (start n : ℕ) (d : Cursor) where
   string-inv set c e = length8-inv set c (readNumber s set c 4) refl e
 
 -- units that were read, one by one
-units-inv : (u : ℕ) (r : Units) (us : List ℕ) (d : Cursor) → andThen u r ≡ units us d → (vs : List ℕ) × (r ≡ units vs d) × (us ≡ u ∷ vs)
-unfolding andThen
+units-inv : (u : ℕ) (r : Units) (us : List ℕ) (d : Cursor) → unitThen u r ≡ units us d → (vs : List ℕ) × (r ≡ units vs d) × (us ≡ u ∷ vs)
+unfolding unitThen
 units-inv u (short x) us d e = absurd (let z : _≡_ {A = ℕ} 0 1 = cc in omega arith)
 units-inv u (units vs c) us d e = (vs, (cc), (cc))
 
@@ -92,7 +92,7 @@ module _ (s : List ℕ) (set : Settings) where
 
   room-one : (n : ℕ) (c : Cursor) (us : List ℕ) (d : Cursor) (r : Number) → readNumber s set c 2 ≡ r
       → ((x : Cursor) (vs : List ℕ) → x .pos ≤ length s → readUnits s set n x ≡ units vs d → Room n x d)
-      → afterNumber short r (λ u x. andThen u (readUnits s set n x)) ≡ units us d → Room (suc n) c d
+      → afterNumber short r (λ u x. unitThen u (readUnits s set n x)) ≡ units us d → Room (suc n) c d
   unfolding afterNumber
   room-one n c us d (number.Short x) f rest e = absurd (let z : _≡_ {A = ℕ} 0 1 = cc in omega arith)
   room-one n c us d (number.Got u x) f rest e =
@@ -159,7 +159,7 @@ module _ (s : List ℕ) (set : Settings) where
 
   side-one : (n : ℕ) (c : Cursor) (us : List ℕ) (d : Cursor) (r : Number) → Even c → readNumber s set c 2 ≡ r
       → ((x : Cursor) (vs : List ℕ) → Even x → readUnits s set n x ≡ units vs d → Side n x vs d)
-      → afterNumber short r (λ u x. andThen u (readUnits s set n x)) ≡ units us d → Side (suc n) c us d
+      → afterNumber short r (λ u x. unitThen u (readUnits s set n x)) ≡ units us d → Side (suc n) c us d
   unfolding unitsAt afterNumber
   side-one n c us d (number.Short x) h f rest e = absurd (let z : _≡_ {A = ℕ} 0 1 = cc in omega arith)
   side-one n c us d (number.Got u x) h f rest e =
