@@ -1,6 +1,6 @@
 -- The XCDR1 search: a law for each way through its functions, that a header moves on, and that the search for 0x3F02 is never told that
 -- there is none. Assumes nothing.
-use Prim.Native.Nat.{ℕ, _-_, _%_}
+use Prim.Native.Nat.{ℕ, _%_}
 use mathlib.Core.Path.{_≡_, refl, sym, _∙_}
 use mathlib.Core.Bool.{Bool, true, false, _&&_}
 use mathlib.Core.List.{List}

@@ -21,7 +21,6 @@ use Rattle.wire.specs.declared.number.Number.the-variants as number
 use Rattle.wire.proofs.Numbers.{Moved, short-got, read-inv, number-inv}
 use Rattle.lookup.specs.Search.{ranShort, pastValue}
 use Rattle.lookup.specs.Xcdr2.{idOf, lcOf, nextintTimes, lengthByLc, lengthOf, steppedBack, judged, turnAt, seekToPid}
-use Rattle.lookup.specs.declared.search.Seek.{Seek}
 use Rattle.lookup.specs.declared.search.Seek.the-variants.{Found, PidNotFound, Short}
 use Rattle.lookup.specs.declared.search.Turn.{Turn}
 use Rattle.lookup.specs.declared.search.Turn.the-variants.{Done, On}
