@@ -36,6 +36,11 @@ pub one-first : (a b : Bool) → (a || b) ≡ true → b ≡ false → a ≡ tru
 one-first true b e h = refl
 one-first false b e h = absurd (apart (sym h ∙ e))
 
+-- what either of two tests gives
+pub either-way : {A : Type 0} (a b : Bool) → (a ≡ true → A) → (b ≡ true → A) → (a || b) ≡ true → A
+either-way true b f g e = f refl
+either-way false b f g e = g e
+
 -- neither of two tests passes
 pub neither-first : (a b : Bool) → (a || b) ≡ false → a ≡ false
 neither-first true b e = e

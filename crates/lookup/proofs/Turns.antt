@@ -8,15 +8,12 @@ use native.Mathlib.Omega.{arith}
 use lib.ListN.{length}
 use Rattle.ground.specs.Choice.{pick}
 use Rattle.wire.specs.Place.{seekTo, alignTo, afterMove}
-use Rattle.wire.specs.Number.{afterNumber}
 use Rattle.wire.specs.declared.settings.Settings.{Settings}
 use Rattle.wire.specs.declared.cursor.Cursor.{Cursor}
 use Rattle.wire.specs.declared.cursor.Shortage.{Shortage}
 use Rattle.wire.specs.declared.cursor.Place.{Place}
 use Rattle.wire.specs.declared.cursor.Place.the-variants as place
-use Rattle.wire.specs.declared.number.Number.{Number}
-use Rattle.wire.specs.declared.number.Number.the-variants as number
-use Rattle.wire.proofs.Moves.{seek-inv, align-inv}
+use Rattle.wire.proofs.Moves.{seek-inv, align-inv, move-inv}
 use Rattle.wire.proofs.Numbers.{Moved}
 use Rattle.lookup.specs.Search.{ranShort, pastValue, onTurn, headersIn, seekBy}
 use Rattle.lookup.specs.declared.search.Seek.{Seek}
@@ -36,18 +33,6 @@ short-done x e = let z : _≡_ {A = ℕ} 0 1 = cc in omega arith
 
 pub found-done : (n : ℕ) (d : Cursor) → Done (Found n d) ≡ Done PidNotFound → ⊥
 found-done n d e = let z : _≡_ {A = ℕ} 0 1 = cc in omega arith
-
--- what is not what a shortage gives came after a finished move, or a number that was read
-module _ {A : Type 0} (short : Shortage → A) (a : A) (other : (x : Shortage) → short x ≡ a → ⊥) where
-  pub move-inv : (p : Place) (next : Cursor → A) → afterMove short p next ≡ a → (d : Cursor) × (p ≡ place.At d) × (next d ≡ a)
-  unfolding afterMove
-  move-inv (place.Short x) next e = absurd (other x e)
-  move-inv (place.At d) next e = (d, refl, e)
-
-  pub number-inv : (r : Number) (next : ℕ → Cursor → A) → afterNumber short r next ≡ a → (v : ℕ) × (d : Cursor) × (r ≡ number.Got v d) × (next v d ≡ a)
-  unfolding afterNumber
-  number-inv (number.Short x) next e = absurd (other x e)
-  number-inv (number.Got v d) next e = (v, d, refl, e)
 
 -- what went on was not done
 pub not-done : (t : Bool) (f : Seek) (rest : Turn) (d : Cursor) → pick t (Done f) rest ≡ On d → rest ≡ On d

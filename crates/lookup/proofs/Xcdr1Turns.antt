@@ -1,6 +1,6 @@
 -- The XCDR1 search: a law for each way through its functions, that a header moves on, and that the search for 0x3F02 is never told that
 -- there is none. Assumes nothing.
-use Prim.Native.Nat.{ℕ, _-_, _%_}
+use Prim.Native.Nat.{ℕ, _%_}
 use mathlib.Core.Path.{_≡_, refl, sym, _∙_}
 use mathlib.Core.Bool.{Bool, true, false, _&&_}
 use mathlib.Core.List.{List}
@@ -16,7 +16,7 @@ use Rattle.wire.specs.declared.cursor.Place.{Place}
 use Rattle.wire.specs.declared.cursor.Place.the-variants as place
 use Rattle.wire.specs.declared.number.Number.{Number}
 use Rattle.wire.specs.declared.number.Number.the-variants as number
-use Rattle.wire.proofs.Numbers.{Moved, read-inv}
+use Rattle.wire.proofs.Numbers.{Moved, read-inv, number-inv}
 use Rattle.lookup.specs.Search.{pastValue}
 use Rattle.lookup.specs.Xcdr1.{headerAt, isEnd, ended, isMatch, judged, onHeader, turnAt, seekToPid, standing, seekToSentinel}
 use Rattle.lookup.specs.declared.search.Seek.{Seek}
@@ -25,7 +25,7 @@ use Rattle.lookup.specs.declared.search.Turn.{Turn}
 use Rattle.lookup.specs.declared.search.Turn.the-variants.{Done, On}
 use Rattle.lookup.specs.declared.xcdr1.Header.{Header}
 use Rattle.lookup.specs.declared.xcdr1.Header.the-variants as header
-use Rattle.lookup.proofs.Turns.{done-on, short-done, found-done, number-inv, not-done, pick-never, then-moved, past-moves, past-there, never-missing}
+use Rattle.lookup.proofs.Turns.{done-on, short-done, found-done, not-done, pick-never, then-moved, past-moves, past-there, never-missing}
 
 -- a header's two numbers
 module _ (s : List ℕ) (set : Settings) (c : Cursor) (r : Number) (is : ReadIs s set c 2 r) where

@@ -10,6 +10,7 @@ use lib.ListN.{length}
 use lib.Dec.{eqb, ltb}
 use borrow.Author.Tests.{eq-eqb, ne-eqb}
 use Rattle.ground.specs.Choice.{pick}
+use Rattle.ground.proofs.Between.{past3}
 use Rattle.wire.specs.Place.{cursorAt}
 use Rattle.wire.specs.Number.{readNumber, ReadIs, afterNumber}
 use Rattle.wire.specs.declared.settings.Settings.{Settings}
@@ -17,14 +18,13 @@ use Rattle.wire.specs.declared.cursor.Cursor.{Cursor}
 use Rattle.wire.specs.declared.cursor.Shortage.{Shortage}
 use Rattle.wire.specs.declared.number.Number.{Number}
 use Rattle.wire.specs.declared.number.Number.the-variants as number
-use Rattle.wire.proofs.Numbers.{Moved, read-inv}
+use Rattle.wire.proofs.Numbers.{Moved, short-got, read-inv, number-inv}
 use Rattle.lookup.specs.Search.{ranShort, pastValue}
 use Rattle.lookup.specs.Xcdr2.{idOf, lcOf, nextintTimes, lengthByLc, lengthOf, steppedBack, judged, turnAt, seekToPid}
-use Rattle.lookup.specs.declared.search.Seek.{Seek}
 use Rattle.lookup.specs.declared.search.Seek.the-variants.{Found, PidNotFound, Short}
 use Rattle.lookup.specs.declared.search.Turn.{Turn}
 use Rattle.lookup.specs.declared.search.Turn.the-variants.{Done, On}
-use Rattle.lookup.proofs.Turns.{done-on, short-done, found-done, number-inv, not-done, pick-never, then-moved, past-moves, past-there, never-missing}
+use Rattle.lookup.proofs.Turns.{done-on, short-done, found-done, not-done, pick-never, then-moved, past-moves, past-there, never-missing}
 
 -- NEXTINT
 module _ (s : List ℕ) (set : Settings) (unit : ℕ) (c : Cursor) (r : Number) (is : ReadIs s set c 4 r) where
@@ -49,9 +49,6 @@ unfolding lengthOf
 by-code s set v lc c is k r e f = rw (sym is ∙ e) f
 
 -- of eight codes the last is none of the others
-past3 : (lc : ℕ) → (lc ≡ 0 → ⊥) → (lc ≡ 1 → ⊥) → (lc ≡ 2 → ⊥) → (lc ≡ 3 → ⊥) → 3 < lc
-past3 lc n0 n1 n2 n3 = omega arith
-
 past6 : (lc : ℕ) → 3 < lc → (lc ≡ 4 → ⊥) → (lc ≡ 5 → ⊥) → (lc ≡ 6 → ⊥) → 6 < lc
 past6 lc h n4 n5 n6 = omega arith
 
@@ -62,9 +59,6 @@ pub seven : (v lc : ℕ) → lc ≡ lcOf v → (lc ≡ 0 → ⊥) → (lc ≡ 1 
 seven v lc is n0 n1 n2 n3 n4 n5 n6 = last v lc is (past6 lc (past3 lc n0 n1 n2 n3) n4 n5 n6)
 
 -- a whole header moves the cursor on, by its four bytes at least and not past the end
-short-got : (x : Shortage) (n : ℕ) (d : Cursor) → number.Short x ≡ number.Got n d → ⊥
-short-got x n d e = let z : _≡_ {A = ℕ} 0 1 = cc in omega arith
-
 got-same : (m : ℕ) (y : Cursor) (n : ℕ) (d : Cursor) → number.Got m y ≡ number.Got n d → y ≡ d
 got-same m y n d e = cc
 

@@ -14,7 +14,7 @@ use Rattle.wire.specs.Number.{readNumber, onAligned, numberHere, onBytes, numbe
 use Rattle.wire.specs.Signed.{extended}
 use Rattle.kinds.specs.Kinds.{alignOf, elementSizeOf, storedOf, isPrimitive, isSigned, unsupportedMember, unsupportedElement, opens, storedByBound, bitmaskStored}
 use Rattle.text.specs.Unicode.{table37, table16, follow, restGood}
-use Rattle.text.specs.Text.{bytesHere, stringType, andThen, readUnits, onUnits, unitsHere, wideHere, wstringType}
+use Rattle.text.specs.Text.{bytesHere, stringType, unitThen, readUnits, onUnits, unitsHere, wideHere, wstringType}
 use Rattle.lookup.specs.Search as search
 use Rattle.lookup.specs.Xcdr1 as first
 use Rattle.lookup.specs.Xcdr2 as second
@@ -100,7 +100,7 @@ sameWords (x ∷ xs) (y ∷ ys) = both (eqb x y) (sameWords xs ys)
 
 -- the reading of an example with every definition on the way open: room for 2,048 rows, as the program `rows` has
 unfoldable pub ran : Example → outcome.Outcome
-unfolding seekTo alignTo paddingOf alignmentOf afterMove readNumber onAligned numberHere onBytes numberAt readBoolean onByte booleanIn readFloat128 halvesOf afterNumber extended alignOf elementSizeOf storedOf isPrimitive isSigned unsupportedMember unsupportedElement opens storedByBound bitmaskStored table37 table16 follow restGood bytesHere stringType andThen readUnits onUnits unitsHere wideHere wstringType search.pastValue search.onTurn search.headersIn first.headerAt first.judged first.onHeader first.turnAt first.seekToPid first.standing first.seekToSentinel second.nextintTimes second.lengthByLc second.lengthOf second.steppedBack second.judged second.turnAt second.seekToPid locatedV1 locatedV2 lookedUp locate endingAt optional default bounded noType typeNo outcome.roomFor outcome.prepend outcome.andThen outcome.orEndIf outcome.closed outcome.backTo scalar.rowed scalar.boolWord scalar.onBoolean scalar.onFloat128 scalar.wordOf scalar.onNumber scalar.onText scalar.scalarOf scalar.enumOf list.elementsFrom list.listOf list.onBlock list.blockOf header.pastNumber header.dheaderBy header.afterDheader header.placeReached header.unheardDheader header.listStart header.countAt header.countFrom value.readAs value.isSequence value.primitiveElement value.openedFrom value.openedList value.elementsOf value.listValue value.valueOf member.byLength member.elementCount member.foundBy member.foundOf member.onLocated member.mmemberOf member.onPresent member.optionalBy member.fmemberBy member.fmemberOf structure.absorbs structure.fmembersOf structure.mmembersOf structure.atSentinel structure.onEnding structure.mstructBy union.membersBy nested.isMutable nested.contentsAt nested.asFinal nested.asMutable nested.bodyBy nested.bodyOf nested.openedIf nested.tooDeepIf nested.nestedAt nested.reading
+unfolding seekTo alignTo paddingOf alignmentOf afterMove readNumber onAligned numberHere onBytes numberAt readBoolean onByte booleanIn readFloat128 halvesOf afterNumber extended alignOf elementSizeOf storedOf isPrimitive isSigned unsupportedMember unsupportedElement opens storedByBound bitmaskStored table37 table16 follow restGood bytesHere stringType unitThen readUnits onUnits unitsHere wideHere wstringType search.pastValue search.onTurn search.headersIn first.headerAt first.judged first.onHeader first.turnAt first.seekToPid first.standing first.seekToSentinel second.nextintTimes second.lengthByLc second.lengthOf second.steppedBack second.judged second.turnAt second.seekToPid locatedV1 locatedV2 lookedUp locate endingAt optional default bounded noType typeNo outcome.roomFor outcome.prepend outcome.andThen outcome.orEndIf outcome.closed outcome.backTo scalar.rowed scalar.boolWord scalar.onBoolean scalar.onFloat128 scalar.wordOf scalar.onNumber scalar.onText scalar.scalarOf scalar.enumOf list.elementsFrom list.listOf list.onBlock list.blockOf header.pastNumber header.dheaderBy header.afterDheader header.placeReached header.unheardDheader header.listStart header.countAt header.countFrom value.readAs value.isSequence value.primitiveElement value.openedFrom value.openedList value.elementsOf value.listValue value.valueOf member.byLength member.elementCount member.foundBy member.foundOf member.onLocated member.mmemberOf member.onPresent member.optionalBy member.fmemberBy member.fmemberOf structure.absorbs structure.fmembersOf structure.mmembersOf structure.atSentinel structure.onEnding structure.mstructBy union.membersBy nested.isMutable nested.contentsAt nested.asFinal nested.asMutable nested.bodyBy nested.bodyOf nested.openedIf nested.tooDeepIf nested.nestedAt nested.reading
 ran e = nested.reading (e .types) (e .bytes) (e .set) (e .root) 2048
 
 right : Example → Bool

@@ -1,6 +1,7 @@
 -- For each function of the cycle, the laws that its answers cite.
 use Rattle.table.proofs.Outcomes.{count-from, count-past}
-use Rattle.values.proofs.Scalars.{row-fits, row-next}
+use Rattle.table.proofs.Filling.{full-fits}
+use Rattle.values.proofs.Scalars.{row-next}
 use Rattle.reader.proofs.ValueSteps.{complex-start, complex-turn, complex-short, complex-refused, complex-end, elements-unsupported, elements-full, elements-complex, elements-block, elements-list, value-none, value-unsupported, value-nested, value-list, value-scalar, list-short, list-got}
 use Rattle.reader.proofs.MemberSteps.{found-length, found-value, mmember-short, mmember-absent, mmember-read, mmember-fell, mmember-refused, optional-looked, optional-short, optional-bad, optional-absent, optional-present, fmember-optional, fmember-value}
 use Rattle.reader.proofs.StructureSteps.{fmembers-start, fmembers-turn, fmembers-ended, fmembers-short, fmembers-refused, fmembers-quick, fmembers-next, fmembers-end}
@@ -11,7 +12,7 @@ use Rattle.reader.proofs.NestedSteps.{body-enum, body-munion, body-shor
 
 pub ruleset opened-laws = (opened-structures, complex-start, complex-turn, complex-short, complex-refused, complex-end)
 
-pub ruleset elements-laws = (elements-unsupported, elements-full, elements-complex, elements-block, elements-list, row-fits, row-next)
+pub ruleset elements-laws = (elements-unsupported, elements-full, elements-complex, elements-block, elements-list, full-fits, row-next)
 
 pub ruleset listed-laws = (list-short, list-got)
 

@@ -10,7 +10,7 @@ use Rattle.wire.specs.Number.{numberAt, onBytes, numberHere, onAligned, readNum
 use Rattle.wire.specs.declared.settings.ByteOrder.the-variants.{BigEndian, LittleEndian}
 use Rattle.wire.specs.declared.settings.Version.the-variants.{Xcdr1, Xcdr2}
 use Rattle.text.specs.Unicode.{table37, table16, follow, restGood, utf8, utf16}
-use Rattle.text.specs.Text.{bytesHere, stringType, andThen, readUnits, onUnits, unitsHere, wideHere, wstringType}
+use Rattle.text.specs.Text.{bytesHere, stringType, unitThen, readUnits, onUnits, unitsHere, wideHere, wstringType}
 use Rattle.text.specs.declared.string.Text.{Text}
 use Rattle.text.specs.declared.string.Text.the-variants.{Got, Short, Bad}
 
@@ -82,5 +82,5 @@ example6 = (refl, refl)
 pairs : (wstringType (0x00 ∷ 0x00 ∷ 0x00 ∷ 0x04 ∷ 0xD8 ∷ 0x00 ∷ 0xDF ∷ 0x02 ∷ []) (settings BigEndian Xcdr2) (cursorAt 0 0) ≡ Got 4 2 (cursorAt 8 0))
     × (string16 (0x02 ∷ 0x00 ∷ 0x00 ∷ 0x00 ∷ 0x02 ∷ 0xDF ∷ []) ≡ Bad)
     × (string16 (0x04 ∷ 0x00 ∷ 0x00 ∷ 0x00 ∷ 0x02 ∷ 0xDF ∷ []) ≡ Short (shortAt (cursorAt 6 0)))
-unfolding wstringType wideHere afterNumber unitsHere onUnits andThen readUnits readNumber onAligned numberHere onBytes numberAt alignTo seekTo paddingOf alignmentOf table16 follow restGood
+unfolding wstringType wideHere afterNumber unitsHere onUnits unitThen readUnits readNumber onAligned numberHere onBytes numberAt alignTo seekTo paddingOf alignmentOf table16 follow restGood
 pairs = (refl, refl, refl)

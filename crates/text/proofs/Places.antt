@@ -7,8 +7,8 @@ use native.Mathlib.Omega.{arith}
 use lib.Dec.{eqb}
 use lib.ListN.{length}
 use Rattle.ground.specs.Choice.{pick}
-use Rattle.wire.specs.Place.{cursorAt, moved, alignmentOf, paddingOf, seekTo, alignTo, afterMove}
-use Rattle.wire.specs.Number.{numberAt, onBytes, numberHere, onAligned, readNumber, afterNumber}
+use Rattle.wire.specs.Place.{cursorAt, moved, alignmentOf, paddingOf, seekTo, afterMove}
+use Rattle.wire.specs.Number.{numberAt, readNumber, afterNumber}
 use Rattle.wire.specs.declared.settings.ByteOrder.{ByteOrder}
 use Rattle.wire.specs.declared.settings.Version.{Version}
 use Rattle.wire.specs.declared.settings.Version.the-variants.{Xcdr1, Xcdr2}
@@ -20,9 +20,9 @@ use Rattle.wire.specs.declared.cursor.Place.the-variants as place
 use Rattle.wire.specs.declared.number.Number.{Number}
 use Rattle.wire.specs.declared.number.Number.the-variants as number
 use Rattle.wire.proofs.Moves.{seek-at, seek-inv}
-use Rattle.wire.proofs.Numbers.{read-inv}
+use Rattle.wire.proofs.Numbers.{read-inv, read-exact}
 use Rattle.text.specs.Unicode.{utf8, utf16, restGood}
-use Rattle.text.specs.Text.{part, judged, bytesHere, stringType, Units, short, units, andThen, readUnits, onUnits, unitsHere, wideHere, wstringType}
+use Rattle.text.specs.Text.{part, judged, bytesHere, stringType, Units, short, units, unitThen, readUnits, onUnits, unitsHere, wideHere, wstringType}
 use Rattle.text.specs.declared.string.Text.the-variants as text
 
 -- n pieces of this size from `start`, all in the data; the reading moved past them and kept its origin
@@ -80,8 +80,8 @@ module _ (s : List ℕ) (start n : ℕ) (d : Cursor) where
   string-inv set c e = length8-inv set c (readNumber s set c 4) refl e
 
 -- units that were read, one by one
-units-inv : (u : ℕ) (r : Units) (us : List ℕ) (d : Cursor) → andThen u r ≡ units us d → (vs : List ℕ) × (r ≡ units vs d) × (us ≡ u ∷ vs)
-unfolding andThen
+units-inv : (u : ℕ) (r : Units) (us : List ℕ) (d : Cursor) → unitThen u r ≡ units us d → (vs : List ℕ) × (r ≡ units vs d) × (us ≡ u ∷ vs)
+unfolding unitThen
 units-inv u (short x) us d e = absurd (let z : _≡_ {A = ℕ} 0 1 = cc in omega arith)
 units-inv u (units vs c) us d e = (vs, (cc), (cc))
 
@@ -92,7 +92,7 @@ module _ (s : List ℕ) (set : Settings) where
 
   room-one : (n : ℕ) (c : Cursor) (us : List ℕ) (d : Cursor) (r : Number) → readNumber s set c 2 ≡ r
       → ((x : Cursor) (vs : List ℕ) → x .pos ≤ length s → readUnits s set n x ≡ units vs d → Room n x d)
-      → afterNumber short r (λ u x. andThen u (readUnits s set n x)) ≡ units us d → Room (suc n) c d
+      → afterNumber short r (λ u x. unitThen u (readUnits s set n x)) ≡ units us d → Room (suc n) c d
   unfolding afterNumber
   room-one n c us d (number.Short x) f rest e = absurd (let z : _≡_ {A = ℕ} 0 1 = cc in omega arith)
   room-one n c us d (number.Got u x) f rest e =
@@ -108,26 +108,6 @@ module _ (s : List ℕ) (set : Settings) where
       let p : c .pos ≡ d .pos = ap (λ (y : Cursor). y .pos) f in
       (omega arith, omega arith, sym (ap (λ (y : Cursor). y .origin) f))
   units-room (suc n) c us d h e = room-one n c us d (readNumber s set c 2) refl (λ x vs g f. units-room n x vs d g f) e
-
-module _ (s : List ℕ) (set : Settings) where
-  -- a read that is done: where it stood, what it read, and the cursor past it
-  here-exact : (o : ByteOrder) (w v : ℕ) (c d : Cursor) (r : Place) → seekTo s c w ≡ r → onBytes s o (c .pos) w r ≡ number.Got v d → (v ≡ numberAt o 0 s (c .pos) w) × (moved c w ≡ d)
-  unfolding onBytes
-  here-exact o w v c d (place.Short x) f e = absurd (let z : _≡_ {A = ℕ} 0 1 = cc in omega arith)
-  here-exact o w v c d (place.At x) f e = ((cc), (let g : x ≡ d = cc in seek-inv s c w x f .1 ∙ g))
-
-  aligned-exact : (o : ByteOrder) (w v p : ℕ) (c d : Cursor) (r : Place) → seekTo s c p ≡ r → onAligned s o w r ≡ number.Got v d → (v ≡ numberAt o 0 s (c .pos + p) w) × (moved (moved c p) w ≡ d)
-  unfolding onAligned numberHere
-  aligned-exact o w v p c d (place.Short x) f e = absurd (let z : _≡_ {A = ℕ} 0 1 = cc in omega arith)
-  aligned-exact o w v p c d (place.At x) f e =
-      let k : moved c p ≡ x = seek-inv s c p x f .1 in
-      let l = here-exact o w v x d (seekTo s x w) refl e in
-      (l .0 ∙ ap (λ (y : Cursor). numberAt o 0 s (y .pos) w) (sym k), ap (λ (y : Cursor). moved y w) k ∙ l .1)
-
-  read-exact : (c : Cursor) (w v p : ℕ) (d : Cursor) → paddingOf c (alignmentOf (set .version) w) ≡ p → readNumber s set c w ≡ number.Got v d
-      → (v ≡ numberAt (set .order) 0 s (c .pos + p) w) × (moved (moved c p) w ≡ d)
-  unfolding readNumber alignTo
-  read-exact c w v p d q e = aligned-exact (set .order) w v p c d (seekTo s c p) refl (rw q at e)
 
 -- an even number of bytes from the origin: there a unit needs no padding
 abbrev Even : Cursor → Type 0
@@ -179,7 +159,7 @@ module _ (s : List ℕ) (set : Settings) where
 
   side-one : (n : ℕ) (c : Cursor) (us : List ℕ) (d : Cursor) (r : Number) → Even c → readNumber s set c 2 ≡ r
       → ((x : Cursor) (vs : List ℕ) → Even x → readUnits s set n x ≡ units vs d → Side n x vs d)
-      → afterNumber short r (λ u x. andThen u (readUnits s set n x)) ≡ units us d → Side (suc n) c us d
+      → afterNumber short r (λ u x. unitThen u (readUnits s set n x)) ≡ units us d → Side (suc n) c us d
   unfolding unitsAt afterNumber
   side-one n c us d (number.Short x) h f rest e = absurd (let z : _≡_ {A = ℕ} 0 1 = cc in omega arith)
   side-one n c us d (number.Got u x) h f rest e =

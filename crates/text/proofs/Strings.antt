@@ -18,7 +18,7 @@ use Rattle.wire.specs.declared.number.Number.the-variants as number
 use Rattle.wire.proofs.Moves.{seek-inv}
 use Rattle.text.specs.Unicode.{utf8, restGood}
 use Rattle.text.specs.Step.{goodFrom}
-use Rattle.text.specs.Text.{part, judged, bytesHere, stringType, Units, short, units, andThen, readUnits, onUnits, unitsHere, wideHere, wstringType}
+use Rattle.text.specs.Text.{part, judged, bytesHere, stringType, Units, short, units, unitThen, readUnits, onUnits, unitsHere, wideHere, wstringType}
 use Rattle.text.specs.declared.string.Text.{Text}
 use Rattle.text.specs.declared.string.Text.the-variants as text
 use Rattle.text.specs.declared.utf16.State.{State}
@@ -82,8 +82,8 @@ module _ (s : List ℕ) (set : Settings) (c : Cursor) (n : ℕ) where
   units-start = started (readUnits s set n c)
 
 -- a unit that is taken, whatever comes after it
-taken : (st next : State) (start n u : ℕ) (r : Units) → ((us : List ℕ) → goodFrom next us ≡ goodFrom st (u ∷ us)) → resumed next start n r ≡ resumed st start n (andThen u r)
-unfolding resumed andThen
+taken : (st next : State) (start n u : ℕ) (r : Units) → ((us : List ℕ) → goodFrom next us ≡ goodFrom st (u ∷ us)) → resumed next start n r ≡ resumed st start n (unitThen u r)
+unfolding resumed unitThen
 taken st next start n u (short x) f = refl
 taken st next start n u (units us d) f = ap (λ (t : Bool). judged t start n d) (f us)
 

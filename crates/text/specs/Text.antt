@@ -38,14 +38,14 @@ pub data Units : Type 0 where
   units : List ℕ → Cursor → Units
 
 -- one unit before the others
-unfoldable pub andThen : ℕ → Units → Units
-andThen u (short x) = short x
-andThen u (units us c) = units (u ∷ us) c
+unfoldable pub unitThen : ℕ → Units → Units
+unitThen u (short x) = short x
+unitThen u (units us c) = units (u ∷ us) c
 
 -- n units, one after the other, each a number of 2 bytes
 unfoldable pub readUnits : List ℕ → Settings → ℕ → Cursor → Units
 readUnits s set zero c = units [] c
-readUnits s set (suc n) c = afterNumber short (readNumber s set c 2) (λ u d. andThen u (readUnits s set n d))
+readUnits s set (suc n) c = afterNumber short (readNumber s set c 2) (λ u d. unitThen u (readUnits s set n d))
 
 -- ".., then UTF-16 pairs"
 unfoldable pub onUnits : ℕ → ℕ → Units → Text

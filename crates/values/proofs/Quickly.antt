@@ -2,7 +2,7 @@
 use Prim.Native.Nat.{ℕ, zero, suc, _+_, _-_, _*_, _≤_, _<_, _^_}
 use mathlib.Core.Path.{_≡_, refl, sym, ap, _∙_}
 use mathlib.Core.Bool.{Bool, true, false, not, _&&_}
-use mathlib.Core.List.{List, [], _∷_}
+use mathlib.Core.List.{List}
 use native.Mathlib.Omega.{arith}
 use mir.Syntax.{w64}
 use mir.Val.{Fits}
@@ -12,11 +12,8 @@ use borrow.Author.Tests.{ne-eqb}
 use Rattle.ground.specs.Choice.{both, _‥_, within}
 use Rattle.ground.proofs.Tests.{and-both, both-left, both-right, inside}
 use Rattle.wire.specs.declared.cursor.Cursor.{Cursor}
-use Rattle.wire.specs.declared.cursor.Shortage.{Shortage}
 use Rattle.wire.specs.declared.settings.Settings.{Settings}
-use Rattle.wire.specs.declared.number.Number.{Number}
 use Rattle.wire.specs.declared.number.Number.the-variants as number
-use Rattle.wire.specs.declared.number.Boolean.{Boolean}
 use Rattle.wire.specs.declared.number.Boolean.the-variants as boolean
 use Rattle.wire.specs.Place.{cursorAt, alignmentOf, paddingOf}
 use Rattle.wire.specs.Number.{numberAt, readNumber, readBoolean, onByte, booleanIn}
@@ -28,7 +25,6 @@ use Rattle.text.proofs.Places.{string-there}
 use Rattle.kinds.specs.Kinds.{alignOf, storedOf, isPrimitive}
 use Rattle.kinds.proofs.Table.{primitive-align}
 use Rattle.table.specs.declared.rows.Row.{Row}
-use Rattle.table.specs.declared.out.Out.{Out}
 use Rattle.table.specs.declared.out.Out.the-variants.{Read}
 use Rattle.table.specs.Rows.{row, width, room, noRoom, putRow}
 use Rattle.table.specs.Outcome.{Outcome, Done}
@@ -80,16 +76,11 @@ free-fits t n e = full-fits t n (noRoom t n) refl e
 pub is-free : (t : List ℕ) (n : ℕ) (f : Bool) → f ≡ noRoom t n → f ≡ false → noRoom t n ≡ false
 is-free t n f is e = sym is ∙ e
 
--- a kind that is known
+-- what a number's function asks, of a kind that is known, and where the table is not full
 module _ (kind k : ℕ) (e : kind ≡ k) where
-  pub is-known : isNumber k ≡ true → isNumber kind ≡ true
-  is-known h = rw e h
-
-  pub stored-known : (x : ℕ) → x ≡ storedOf k → x ≡ storedOf kind
-  stored-known x h = rw e h
-
-  pub width-known : (x : ℕ) → x ≡ alignOf k → x ≡ alignOf kind
-  width-known x h = rw e h
+  pub number-asks : (y w : ℕ) → isNumber k ≡ true → y ≡ storedOf k → w ≡ alignOf k → (t : List ℕ) (n : ℕ) (f : Bool) → f ≡ noRoom t n → f ≡ false
+      → (noRoom t n ≡ false) × (isNumber kind ≡ true) × (y ≡ storedOf kind) × (w ≡ alignOf kind)
+  number-asks y w num stored wide t n f is free = (is-free t n f is free, rw e num, rw e stored, rw e wide)
 
 -- the code's test
 pub is-number : (kind : ℕ) → ((leb 2 kind && leb kind 14) && not (eqb kind 11)) ≡ isNumber kind

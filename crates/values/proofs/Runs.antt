@@ -1,7 +1,7 @@
 -- Laws of a list of numbers that is there whole: its rows, one turn of the loop after the other, and that the rules say the same of it.
 -- Assumes nothing.
 use Prim.Native.Nat.{ℕ, zero, suc, _+_, _-_, _*_, _^_, _%_, _≤_, _<_}
-use mathlib.Core.Path.{_≡_, refl, sym, ap, subst, _∙_}
+use mathlib.Core.Path.{_≡_, refl, sym, ap, _∙_}
 use mathlib.Core.Bool.{Bool, true, false, not, _||_}
 use mathlib.Core.List.{List, [], _∷_, _++_, append-nil, append-assoc}
 use native.Mathlib.Nat.{add-zero, suc-mul, zero-mul, sub-zero, mul-le-mul-left, mul-pos}
@@ -12,7 +12,7 @@ use lib.ListN.{length, length-append}
 use lib.Dec.{T, leb, ltb, eqb, leb→le, eqb→eq}
 use borrow.Author.Tests.{ltb-false, eqb-false, not-false}
 use Rattle.ground.specs.Choice.{both}
-use Rattle.ground.proofs.Tests.{both-left, both-right}
+use Rattle.ground.proofs.Tests.{both-left, both-right, neither-first, neither-second}
 use Rattle.ground.proofs.Between.{between}
 use Rattle.wire.specs.declared.cursor.Cursor.{Cursor}
 use Rattle.wire.specs.declared.cursor.Place.{Place}
@@ -104,17 +104,9 @@ module _ (s : List ℕ) (o : ByteOrder) (kind w count pos n : ℕ) (t₀ : List 
         let k : rowsFrom s o kind count 0 pos ≡ inv .new = inv .same ∙ rw e (append-nil (inv .new)) in
         rw k (inv .filled)
 
-or-first : (a b : Bool) → (a || b) ≡ false → a ≡ false
-or-first true b e = e
-or-first false b e = refl
-
-or-second : (a b : Bool) → (a || b) ≡ false → b ≡ false
-or-second true b e = absurd (subst (λ (x : Bool). T x) e tt)
-or-second false b e = e
-
 -- the most numbers that are asked for
 pub count-most : (count : ℕ) → (eqb count 0 || ltb 0xFFFFFFFF count) ≡ false → count ≤ 0xFFFFFFFF
-count-most count e = ltb-false 0xFFFFFFFF count (or-second (eqb count 0) (ltb 0xFFFFFFFF count) e)
+count-most count e = ltb-false 0xFFFFFFFF count (neither-second (eqb count 0) (ltb 0xFFFFFFFF count) e)
 
 -- a width that is known
 module _ (w k : ℕ) (e : w ≡ k) where
@@ -137,10 +129,10 @@ module _ (s t : List ℕ) (w count p n : ℕ) where
   pub is-there : (e r : ℕ) → e ≡ length s → r ≡ capacity t → 0 < w → (eqb count 0 || ltb 0xFFFFFFFF count) ≡ false → p ≤ e → n ≤ r → count * w ≤ e - p → count ≤ r - n → (x : ℕ) → x ≡ p + count * w → WhereThere s t w count p n x
   unfolding WhereThere
   is-there e r is cap wide some inside place bytes rows zero at =
-      let c : 0 < count = omega (arith, eqb-false count 0 (or-first (eqb count 0) (ltb 0xFFFFFFFF count) some)) in
+      let c : 0 < count = omega (arith, eqb-false count 0 (neither-first (eqb count 0) (ltb 0xFFFFFFFF count) some)) in
       absurd (omega (arith, mul-pos c wide))
   is-there e r is cap wide some inside place bytes rows (suc x) at =
-      (omega (arith, eqb-false count 0 (or-first (eqb count 0) (ltb 0xFFFFFFFF count) some)), at, omega arith, omega arith)
+      (omega (arith, eqb-false count 0 (neither-first (eqb count 0) (ltb 0xFFFFFFFF count) some)), at, omega arith, omega arith)
 
   pub there-sum : length s < 2 ^ 64 → (e : ℕ) → e ≡ length s → p ≤ e → count * w ≤ e - p → Fits w64 (p + count * w)
   there-sum k e is inside bytes = omega arith

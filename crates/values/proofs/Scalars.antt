@@ -1,5 +1,5 @@
 -- Laws of a value that opens nothing: one for each way that it goes. Assumes nothing.
-use Prim.Native.Nat.{ℕ, _+_, _*_, _≤_, _<_, _^_}
+use Prim.Native.Nat.{ℕ, _+_, _≤_, _<_, _^_}
 use mathlib.Core.Path.{_≡_, refl, sym, _∙_}
 use mathlib.Core.Bool.{Bool, true, false, _||_, or-assoc, or-false}
 use mathlib.Core.List.{List, [], _∷_}
@@ -31,7 +31,7 @@ use Rattle.table.specs.declared.rows.Row.{Row}
 use Rattle.table.specs.declared.out.Refusal.the-variants.{InvalidData, Unsupported, NoRoom}
 use Rattle.table.specs.declared.out.Out.{Out}
 use Rattle.table.specs.declared.out.Out.the-variants.{Read, Short, Refused}
-use Rattle.table.specs.Rows.{row, width, room, noRoom, putRow}
+use Rattle.table.specs.Rows.{row, room, noRoom, putRow}
 use Rattle.table.specs.Outcome.{Done}
 use Rattle.table.proofs.Filling.{filled-none, filled-one, full-fits}
 use Rattle.table.proofs.Outcomes.{is-read, is-short, is-refused, no-room, some-room}
@@ -39,9 +39,6 @@ use Rattle.values.specs.Scalar.{rowed, boolWord, onBoolean, onFloat128, 
 
 -- a row, where it has a place
 module _ (t : List ℕ) (n : ℕ) (f : Bool) (is : f ≡ noRoom t n) where
-  pub row-fits : f ≡ false → width * n + width ≤ length t
-  row-fits e = full-fits t n f is e
-
   pub row-next : f ≡ false → length t < 2 ^ 64 → Fits w64 (n + 1)
   row-next e h = omega (arith, full-fits t n f is e)
 

@@ -1,5 +1,4 @@
 // Lists of values that open nothing.
-ghost use mathlib.Core.Path.{_≡_};
 ghost use Rattle.table.specs.Rows.{room};
 ghost use Rattle.table.specs.Outcome.{Done};
 ghost use Rattle.values.specs.Scalar.{scalarOf};

@@ -6,6 +6,9 @@ ghost use Rattle.table.specs.Rows.{room};
 ghost use Rattle.table.specs.Outcome.{Done};
 ghost use Rattle.wire.specs.Number.{readBoolean, readFloat128, readNumber};
 ghost use Rattle.values.specs.Scalar.{rowed, boolWord, onBoolean, onFloat128, wordOf, onNumber, onText, scalarOf, enumOf};
+use kinds::names::INT8;
+use kinds::names::INT16;
+use kinds::names::INT32;
 use table::out::Out;
 use table::out::Refusal;
 use table::rows::Row;
@@ -152,7 +155,7 @@ pub fn scalar(
 pub fn enum_type(s: &[u8], set: Settings, t: &mut [u64], base: u8, at: Cursor, n: usize) -> Out
     ensures { λ r. ⌜ Done (enumOf (now (s .entry)) set base at (room (now (t .entry)) n)) n (now (t .entry)) (now (t .exit)) r ⌝ }
 {
-    if (base == 3) | (base == 4) | (base == 12) {
+    if (base == INT16) | (base == INT32) | (base == INT8) {
         return scalar(s, set, t, base, 0, at, n);
     }
     Out::Refused(Refusal::Unsupported)

@@ -1,5 +1,5 @@
 -- Document 01's bench examples that are numbers, computed. Assumes nothing.
-use Prim.Native.Nat.{ℕ, _*_, _^_, _-_}
+use Prim.Native.Nat.{ℕ, _*_, _^_}
 use mathlib.Core.Path.{_≡_, refl}
 use mathlib.Core.List.{List, [], _∷_}
 use Rattle.wire.specs.Identifier.{settings, orderOf, settingsOf}

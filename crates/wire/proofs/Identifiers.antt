@@ -8,7 +8,8 @@ use lib.ListN.{getD}
 use lib.Dec.{ltb, eqb}
 use borrow.Author.Tests.{ltb-true, ltb-false, eq-eqb, eqb-true}
 use Rattle.ground.specs.Choice.{both}
-use Rattle.ground.proofs.Tests.{and-both, below, above}
+use Rattle.ground.proofs.Tests.{either-way, neither-first, neither-second, and-both, below, above}
+use Rattle.ground.proofs.Between.{past3}
 use Rattle.wire.specs.Identifier.{settingsOf, sameBytes}
 use Rattle.wire.specs.declared.settings.Representation.{Representation}
 use Rattle.wire.specs.declared.settings.Representation.the-variants.{Unknown}
@@ -43,9 +44,6 @@ module _ (id : List ℕ) (k : ℕ) where
   no-string e h f = let t : both (eqb first 0) (eqb second k) ≡ true = rw (eq-eqb first 0 e, eq-eqb second k f) in
       let z : _≡_ {A = ℕ} 0 1 = cc in omega arith
 
-past3 : (b : ℕ) → (b ≡ 0 → ⊥) → (b ≡ 1 → ⊥) → (b ≡ 2 → ⊥) → (b ≡ 3 → ⊥) → 3 < b
-past3 b n0 n1 n2 n3 = omega arith
-
 past11 : (b : ℕ) → 6 ≤ b → (b ≡ 6 → ⊥) → (b ≡ 7 → ⊥) → (b ≡ 8 → ⊥) → (b ≡ 9 → ⊥) → (b ≡ 10 → ⊥) → (b ≡ 11 → ⊥) → 11 < b
 past11 b h n6 n7 n8 n9 n10 n11 = omega arith
 
@@ -59,27 +57,14 @@ outside b n0 n1 n2 n3 n6 n7 n8 n9 n10 n11 = go (ltb b 6) refl
     go true h = rw (above 0 3 b (past3 b n0 n1 n2 n3), below 6 11 b (ltb-true b 6 h))
     go false h = rw (above 0 3 b (past3 b n0 n1 n2 n3), above 6 11 b (past11 b (ltb-false b 6 h) n6 n7 n8 n9 n10 n11))
 
--- one of two tests passes; neither does
-or-true : (A : Type 0) (x y : Bool) → (x ≡ true → A) → (y ≡ true → A) → (x || y) ≡ true → A
-or-true A true y f g h = f refl
-or-true A false y f g h = g h
-
-or-left : (x y : Bool) → (x || y) ≡ false → x ≡ false
-or-left true y h = h
-or-left false y h = refl
-
-or-right : (x y : Bool) → (x || y) ≡ false → y ≡ false
-or-right true y h = absurd (let z : _≡_ {A = ℕ} 0 1 = cc in omega arith)
-or-right false y h = h
-
 module _ (id : List ℕ) where
   -- two or three strings that name the same
   pub known : (p q : ℕ) (r : Representation) → settingsOf 0 p ≡ r → settingsOf 0 q ≡ r → (sameBytes id (string p) || sameBytes id (string q)) ≡ true → r ≡ settingsOf (getD id 0 0) (getD id 1 0)
-  known p q r e f h = or-true (r ≡ settingsOf (getD id 0 0) (getD id 1 0)) (sameBytes id (string p)) (sameBytes id (string q)) (λ t. sym e ∙ is-string id p t) (λ t. sym f ∙ is-string id q t) h
+  known p q r e f h = either-way (sameBytes id (string p)) (sameBytes id (string q)) (λ t. sym e ∙ is-string id p t) (λ t. sym f ∙ is-string id q t) h
 
   pub known3 : (o p q : ℕ) (r : Representation) (x y : Bool) → x ≡ sameBytes id (string o) → y ≡ (sameBytes id (string p) || sameBytes id (string q))
       → settingsOf 0 o ≡ r → settingsOf 0 p ≡ r → settingsOf 0 q ≡ r → (x || y) ≡ true → r ≡ settingsOf (getD id 0 0) (getD id 1 0)
-  known3 o p q r x y a b d e f h = or-true (r ≡ settingsOf (getD id 0 0) (getD id 1 0)) x y (λ t. sym d ∙ is-string id o (sym a ∙ t)) (λ t. known p q r e f (sym b ∙ t)) h
+  known3 o p q r x y a b d e f h = either-way x y (λ t. sym d ∙ is-string id o (sym a ∙ t)) (λ t. known p q r e f (sym b ∙ t)) h
 
   -- none of the ten
   pub unknown : (v w x y z u : Bool)
@@ -94,14 +79,14 @@ module _ (id : List ℕ) where
       go false e = rw e
       go true e =
           let a = eqb-true (getD id 0 0) 0 e in
-          let n0 = no-string id 0 a (or-left _ (sameBytes id (string 2)) (sym hv ∙ fv)) in
-          let n2 = no-string id 2 a (or-right (sameBytes id (string 0)) _ (sym hv ∙ fv)) in
-          let n1 = no-string id 1 a (or-left _ (sameBytes id (string 3)) (sym hw ∙ fw)) in
-          let n3 = no-string id 3 a (or-right (sameBytes id (string 1)) _ (sym hw ∙ fw)) in
-          let n6 = no-string id 6 a (sym hx ∙ or-left x y fx) in
-          let n8 = no-string id 8 a (or-left _ (sameBytes id (string 10)) (sym hy ∙ or-right x y fx)) in
-          let n10 = no-string id 10 a (or-right (sameBytes id (string 8)) _ (sym hy ∙ or-right x y fx)) in
-          let n7 = no-string id 7 a (sym hz ∙ or-left z u fz) in
-          let n9 = no-string id 9 a (or-left _ (sameBytes id (string 11)) (sym hu ∙ or-right z u fz)) in
-          let n11 = no-string id 11 a (or-right (sameBytes id (string 9)) _ (sym hu ∙ or-right z u fz)) in
+          let n0 = no-string id 0 a (neither-first _ (sameBytes id (string 2)) (sym hv ∙ fv)) in
+          let n2 = no-string id 2 a (neither-second (sameBytes id (string 0)) _ (sym hv ∙ fv)) in
+          let n1 = no-string id 1 a (neither-first _ (sameBytes id (string 3)) (sym hw ∙ fw)) in
+          let n3 = no-string id 3 a (neither-second (sameBytes id (string 1)) _ (sym hw ∙ fw)) in
+          let n6 = no-string id 6 a (sym hx ∙ neither-first x y fx) in
+          let n8 = no-string id 8 a (neither-first _ (sameBytes id (string 10)) (sym hy ∙ neither-second x y fx)) in
+          let n10 = no-string id 10 a (neither-second (sameBytes id (string 8)) _ (sym hy ∙ neither-second x y fx)) in
+          let n7 = no-string id 7 a (sym hz ∙ neither-first z u fz) in
+          let n9 = no-string id 9 a (neither-first _ (sameBytes id (string 11)) (sym hu ∙ neither-second z u fz)) in
+          let n11 = no-string id 11 a (neither-second (sameBytes id (string 9)) _ (sym hu ∙ neither-second z u fz)) in
           rw a (outside (getD id 1 0) n0 n1 n2 n3 n6 n7 n8 n9 n10 n11)

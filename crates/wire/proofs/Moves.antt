@@ -181,3 +181,9 @@ module _ {A : Type 0} (short : Shortage → A) (next : Cursor → A) {p : Place}
   pub after-short : {x : Shortage} → p ≡ Short x → afterMove short p next ≡ short x
   unfolding afterMove
   after-short e = rw e
+
+-- what is not what a shortage gives came after a finished move
+pub move-inv : {A : Type 0} (short : Shortage → A) (a : A) → ((x : Shortage) → short x ≡ a → ⊥) → (p : Place) (next : Cursor → A) → afterMove short p next ≡ a → (d : Cursor) × (p ≡ At d) × (next d ≡ a)
+unfolding afterMove
+move-inv short a other (Short x) next e = absurd (other x e)
+move-inv short a other (At d) next e = (d, refl, e)

@@ -109,13 +109,14 @@ pub record Moved (s : List ℕ) (c : Cursor) (w : ℕ) (d : Cursor) : Type 0 whe
   pub inside : d .pos ≤ length s
   pub kept : d .origin ≡ c .origin
 
-apart : (x : Shortage) (v : ℕ) (d : Cursor) → number.Short x ≡ number.Got v d → ⊥
-apart x v d e = let z : _≡_ {A = ℕ} 0 1 = cc in omega arith
+-- two constructors are never equal
+pub short-got : (x : Shortage) (v : ℕ) (d : Cursor) → number.Short x ≡ number.Got v d → ⊥
+short-got x v d e = let z : _≡_ {A = ℕ} 0 1 = cc in omega arith
 
 module _ (s : List ℕ) where
   here-inv : (o : ByteOrder) (p w v : ℕ) (c d : Cursor) (r : Place) → seekTo s c w ≡ r → onBytes s o p w r ≡ number.Got v d → Moved s c w d
   unfolding onBytes
-  here-inv o p w v c d (place.Short x) f e = absurd (apart x v d e)
+  here-inv o p w v c d (place.Short x) f e = absurd (short-got x v d e)
   here-inv o p w v c d (place.At y) f e =
       let g : y ≡ d = cc in
       let k = seek-inv s c w y f in
@@ -124,7 +125,7 @@ module _ (s : List ℕ) where
 
   aligned-inv : (o : ByteOrder) (u : Settings) (w v : ℕ) (c d : Cursor) (r : Place) → alignTo s (u .version) c w ≡ r → onAligned s o w r ≡ number.Got v d → Moved s c w d
   unfolding onAligned numberHere
-  aligned-inv o u w v c d (place.Short x) f e = absurd (apart x v d e)
+  aligned-inv o u w v c d (place.Short x) f e = absurd (short-got x v d e)
   aligned-inv o u w v c d (place.At y) f e =
       let a = align-inv s (u .version) c w y f in
       let b = here-inv o (y .pos) w v y d (seekTo s y w) refl e in
@@ -133,6 +134,26 @@ module _ (s : List ℕ) where
   pub read-inv : (set : Settings) (c : Cursor) (w v : ℕ) (d : Cursor) → readNumber s set c w ≡ number.Got v d → Moved s c w d
   unfolding readNumber
   read-inv set c w v d e = aligned-inv (set .order) set w v c d (alignTo s (set .version) c w) refl e
+
+-- a read that is done: where it stood, what it read, and the cursor past it
+module _ (s : List ℕ) where
+  here-exact : (o : ByteOrder) (w v : ℕ) (c d : Cursor) (r : Place) → seekTo s c w ≡ r → onBytes s o (c .pos) w r ≡ number.Got v d → (v ≡ numberAt o 0 s (c .pos) w) × (moved c w ≡ d)
+  unfolding onBytes
+  here-exact o w v c d (place.Short x) f e = absurd (short-got x v d e)
+  here-exact o w v c d (place.At x) f e = ((cc), (let g : x ≡ d = cc in seek-inv s c w x f .1 ∙ g))
+
+  aligned-exact : (o : ByteOrder) (w v p : ℕ) (c d : Cursor) (r : Place) → seekTo s c p ≡ r → onAligned s o w r ≡ number.Got v d → (v ≡ numberAt o 0 s (c .pos + p) w) × (moved (moved c p) w ≡ d)
+  unfolding onAligned numberHere
+  aligned-exact o w v p c d (place.Short x) f e = absurd (short-got x v d e)
+  aligned-exact o w v p c d (place.At x) f e =
+      let k : moved c p ≡ x = seek-inv s c p x f .1 in
+      let l = here-exact o w v x d (seekTo s x w) refl e in
+      (l .0 ∙ ap (λ (y : Cursor). numberAt o 0 s (y .pos) w) (sym k), ap (λ (y : Cursor). moved y w) k ∙ l .1)
+
+  pub read-exact : (set : Settings) (c : Cursor) (w v p : ℕ) (d : Cursor) → paddingOf c (alignmentOf (set .version) w) ≡ p → readNumber s set c w ≡ number.Got v d
+      → (v ≡ numberAt (set .order) 0 s (c .pos + p) w) × (moved (moved c p) w ≡ d)
+  unfolding readNumber alignTo
+  read-exact set c w v p d q e = aligned-exact (set .order) w v p c d (seekTo s c p) refl (rw q at e)
 
 -- a number that is there, past its alignment or with none to pass
 module _ (s : List ℕ) (set : Settings) (c : Cursor) (w : ℕ) where
@@ -155,6 +176,13 @@ module _ {A : Type 0} (short : Shortage → A) (next : ℕ → Cursor → A) {n 
   pub after-none : {x : Shortage} → n ≡ number.Short x → afterNumber short n next ≡ short x
   unfolding afterNumber
   after-none e = rw e
+
+-- what is not what a shortage gives came after a number that was read
+pub number-inv : {A : Type 0} (short : Shortage → A) (a : A) → ((x : Shortage) → short x ≡ a → ⊥) → (r : Number) (next : ℕ → Cursor → A) → afterNumber short r next ≡ a
+    → (v : ℕ) × (d : Cursor) × (r ≡ number.Got v d) × (next v d ≡ a)
+unfolding afterNumber
+number-inv short a other (number.Short x) next e = absurd (other x e)
+number-inv short a other (number.Got v d) next e = (v, d, refl, e)
 
 -- a number that is all there, q being where it stands
 pub read-there : (s : List ℕ) (set : Settings) (c : Cursor) (w q v : ℕ) → q ≡ c .pos + paddingOf c (alignmentOf (set .version) w) → q + w ≤ length s → v ≡ numberAt (set .order) 0 s q w

@@ -2,9 +2,7 @@
 use Prim.Native.Nat.{ℕ, suc, _<_, _≤_, _+_, _-_, _/_, _%_, _^_}
 use mathlib.Core.Path.{_≡_, refl, sym, _∙_}
 use mathlib.Core.Bool.{Bool, true, false}
-use mathlib.Core.List.{List, [], _∷_}
 use native.Mathlib.Omega.{arith}
-use lib.ListN.{getD}
 use lib.Dec.{T, ltb, leb, eqb, eqb→eq, leb→le}
 use lib.IntN.{ℤ, pos, negsuc, _-ℤ_}
 use mir.Syntax.{w32, w64}

@@ -3,7 +3,7 @@
 ghost use mathlib.Core.Path.{_≡_};
 ghost use Prim.Native.Nat.{_+_, _*_, _≤_, _<_, _^_};
 ghost use lib.ListN.{length};
-ghost use Rattle.wire.specs.Number.{numberAt, Bytes, turnedTwo, turnedFour, turnedEight, numberHere, booleanIn, readFloat128, float128Here, readBoolean, ReadIs, HereIs};
+ghost use Rattle.wire.specs.Number.{numberAt, Bytes, turnedTwo, turnedFour, turnedEight, booleanIn, readFloat128, float128Here, readBoolean, ReadIs, HereIs};
 use crate::cursor::Cursor;
 use crate::cursor::Place;
 use crate::cursor::Shortage;

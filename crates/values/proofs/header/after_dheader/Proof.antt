@@ -2,9 +2,6 @@ use Rattle.values.proofs.Headers.{dheader-none, dheader-past}
 use borrow.Author.Needs.{needs}
 use Rattle.values.proofs.header.after_dheader.Statement.{statement}
 use Rattle.values.proofs.header.after_dheader.Tie as tie
-use Rattle.values.proofs.header.after_dheader.Reads as reads
-use Rattle.values.proofs.header.after_dheader.Lts as lts
-use Rattle.values.proofs.header.past_four.Reads as past-four-reads
 
 enum-told : tie.Need-enum-told
 enum-told c = search needs

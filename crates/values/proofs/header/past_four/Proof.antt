@@ -2,11 +2,6 @@ use Rattle.values.proofs.Headers.{four-there, four-past, four-short}
 use borrow.Author.Needs.{needs}
 use Rattle.values.proofs.header.past_four.Statement.{statement}
 use Rattle.values.proofs.header.past_four.Tie as tie
-use Rattle.values.proofs.header.past_four.Reads as reads
-use Rattle.values.proofs.header.past_four.Lts as lts
-use Rattle.wire.proofs.cursor.Cursor.new.Reads as new-reads
-use Rattle.wire.proofs.cursor.Cursor.start.Reads as start-reads
-use Rattle.wire.proofs.number.read_number.Reads as read-number-reads
 
 start-requires : tie.Need-start-requires
 start-requires c κs = search needs

@@ -6,10 +6,6 @@ use Rattle.values.specs.List.{elementsFrom}
 use Rattle.values.proofs.Lists.{ElementsSofar, elements-start, elements-turn, elements-short, elements-refused, elements-end, elements-quick, elements-left, elements-next}
 use Rattle.values.proofs.list.each.Statement.{statement}
 use Rattle.values.proofs.list.each.Tie as tie
-use Rattle.values.proofs.list.each.Reads as reads
-use Rattle.values.proofs.list.each.Lts as lts
-use Rattle.values.proofs.list.text.Reads as text-reads
-use Rattle.values.proofs.scalar.scalar.Reads as scalar-reads
 
 abbrev Inv-loop : tie.InvT-loop
 Inv-loop s set t₀ kind count n i₀ pos₀ origin₀ m₀ t i pos origin m = ElementsSofar s set kind count (elementsFrom s set kind count 0 (cursorAt pos₀ origin₀) (room t₀ n)) n t₀ t i (cursorAt pos origin) m

@@ -1,5 +1,6 @@
 use Rattle.values.proofs.Lists.{list-full, list-rows}
-use Rattle.values.proofs.Scalars.{row-fits, row-next}
+use Rattle.table.proofs.Filling.{full-fits}
+use Rattle.values.proofs.Scalars.{row-next}
 use borrow.Author.Needs.{needs}
 use Rattle.values.proofs.list.list.Statement.{statement}
 use Rattle.values.proofs.list.list.Tie as tie
@@ -20,7 +21,7 @@ cast-t16 : tie.Need-cast-t16
 cast-t16 c = search needs
 
 put-row-requires : tie.Need-put-row-requires
-put-row-requires c κs = search (needs, row-fits)
+put-row-requires c κs = search (needs, full-fits)
 
 add-elements : tie.Need-add-elements
 add-elements c = search (needs, row-next)

@@ -2,10 +2,6 @@ use Rattle.values.proofs.Quickly.{is-free, quick-not, quick-kind}
 use borrow.Author.Needs.{needs}
 use Rattle.values.proofs.list.text.Statement.{statement}
 use Rattle.values.proofs.list.text.Tie as tie
-use Rattle.values.proofs.list.text.Reads as reads
-use Rattle.values.proofs.list.text.Lts as lts
-use Rattle.table.proofs.rows.is_full.Reads as is-full-reads
-use Rattle.values.proofs.quick.string.Reads as string-reads
 
 is-full-requires : tie.Need-is-full-requires
 is-full-requires c κs = search (needs, is-free, quick-not, quick-kind)

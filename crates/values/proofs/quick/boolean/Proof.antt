@@ -2,10 +2,6 @@ use Rattle.values.proofs.Quickly.{quick-boolean, quick-not, free-fits}
 use borrow.Author.Needs.{needs}
 use Rattle.values.proofs.quick.boolean.Statement.{statement}
 use Rattle.values.proofs.quick.boolean.Tie as tie
-use Rattle.values.proofs.quick.boolean.Reads as reads
-use Rattle.values.proofs.quick.boolean.Lts as lts
-use Rattle.ground.proofs.wide.Reads as wide-reads
-use Rattle.table.proofs.rows.put_row.Reads as put-row-reads
 
 returns : tie.Need-returns
 returns c = search (needs, quick-boolean, quick-not, free-fits)

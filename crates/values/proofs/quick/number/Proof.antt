@@ -2,12 +2,6 @@ use Rattle.values.proofs.Quickly.{wide-some, wide-most, quick-number, q
 use borrow.Author.Needs.{needs}
 use Rattle.values.proofs.quick.number.Statement.{statement}
 use Rattle.values.proofs.quick.number.Tie as tie
-use Rattle.values.proofs.quick.number.Reads as reads
-use Rattle.values.proofs.quick.number.Lts as lts
-use Rattle.table.proofs.rows.put_row.Reads as put-row-reads
-use Rattle.values.proofs.scalar.word_of.Reads as word-of-reads
-use Rattle.wire.proofs.cursor.Cursor.start.Reads as start-reads
-use Rattle.wire.proofs.number.from_bytes.Reads as from-bytes-reads
 
 start-requires : tie.Need-start-requires
 start-requires c κs = search (needs, wide-some, wide-most, quick-number, quick-not, free-fits)

@@ -3,12 +3,6 @@ use Rattle.values.proofs.Quickly.{quick-text, quick-not, free-fits}
 use borrow.Author.Needs.{needs}
 use Rattle.values.proofs.quick.string.Statement.{statement}
 use Rattle.values.proofs.quick.string.Tie as tie
-use Rattle.values.proofs.quick.string.Reads as reads
-use Rattle.values.proofs.quick.string.Lts as lts
-use Rattle.table.proofs.rows.put_row.Reads as put-row-reads
-use Rattle.text.proofs.string.is_text.Reads as is-text-reads
-use Rattle.wire.proofs.cursor.Cursor.start.Reads as start-reads
-use Rattle.wire.proofs.number.from_bytes.Reads as from-bytes-reads
 
 start-requires : tie.Need-start-requires
 start-requires c κs = search (needs, quick-text, quick-not, free-fits)

@@ -2,8 +2,6 @@ use Rattle.wire.proofs.Moves.{alignment-own, alignment-small, alignment
 use borrow.Author.Needs.{needs}
 use Rattle.wire.proofs.cursor.alignment_of.Statement.{statement}
 use Rattle.wire.proofs.cursor.alignment_of.Tie as tie
-use Rattle.wire.proofs.cursor.alignment_of.Reads as reads
-use Rattle.wire.proofs.cursor.alignment_of.Lts as lts
 
 enum-told : tie.Need-enum-told
 enum-told c = search needs

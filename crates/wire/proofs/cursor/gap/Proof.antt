@@ -2,8 +2,6 @@ use Rattle.wire.proofs.Moves.{gap-by, gap-one, rest-below, gap-below}
 use borrow.Author.Needs.{needs}
 use Rattle.wire.proofs.cursor.gap.Statement.{statement}
 use Rattle.wire.proofs.cursor.gap.Tie as tie
-use Rattle.wire.proofs.cursor.gap.Reads as reads
-use Rattle.wire.proofs.cursor.gap.Lts as lts
 
 sub-result : tie.Need-sub-result
 sub-result c = search (needs, gap-by, gap-one, rest-below, gap-below)

@@ -2,10 +2,6 @@ use Rattle.wire.proofs.Digits.{turned-eight, same-eight}
 use borrow.Author.Needs.{needs}
 use Rattle.wire.proofs.number.eight_bytes.Statement.{statement}
 use Rattle.wire.proofs.number.eight_bytes.Tie as tie
-use Rattle.wire.proofs.number.eight_bytes.Reads as reads
-use Rattle.wire.proofs.number.eight_bytes.Lts as lts
-use Rattle.wire.proofs.number.eight_here.Reads as eight-here-reads
-use Rattle.wire.proofs.number.turned_eight.Reads as turned-eight-reads
 
 eight-here-requires : tie.Need-eight-here-requires
 eight-here-requires c κs = search needs

@@ -2,10 +2,6 @@ use Rattle.wire.proofs.Digits.{turned-four, same-four}
 use borrow.Author.Needs.{needs}
 use Rattle.wire.proofs.number.four_bytes.Statement.{statement}
 use Rattle.wire.proofs.number.four_bytes.Tie as tie
-use Rattle.wire.proofs.number.four_bytes.Reads as reads
-use Rattle.wire.proofs.number.four_bytes.Lts as lts
-use Rattle.wire.proofs.number.four_here.Reads as four-here-reads
-use Rattle.wire.proofs.number.turned_four.Reads as turned-four-reads
 
 four-here-requires : tie.Need-four-here-requires
 four-here-requires c κs = search needs

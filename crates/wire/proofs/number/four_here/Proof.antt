@@ -2,9 +2,6 @@ use Rattle.wire.proofs.Digits.{le-four, four-bytes}
 use borrow.Author.Needs.{needs}
 use Rattle.wire.proofs.number.four_here.Statement.{statement}
 use Rattle.wire.proofs.number.four_here.Tie as tie
-use Rattle.wire.proofs.number.four_here.Reads as reads
-use Rattle.wire.proofs.number.four_here.Lts as lts
-use Rattle.wire.proofs.number.four.Reads as four-reads
 
 add-four : tie.Need-add-four
 add-four c = search needs

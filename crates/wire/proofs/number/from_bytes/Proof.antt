@@ -2,12 +2,6 @@ use Rattle.wire.proofs.Digits.{of-width, below-width}
 use borrow.Author.Needs.{needs}
 use Rattle.wire.proofs.number.from_bytes.Statement.{statement}
 use Rattle.wire.proofs.number.from_bytes.Tie as tie
-use Rattle.wire.proofs.number.from_bytes.Reads as reads
-use Rattle.wire.proofs.number.from_bytes.Lts as lts
-use Rattle.wire.proofs.number.eight_bytes.Reads as eight-bytes-reads
-use Rattle.wire.proofs.number.four_bytes.Reads as four-bytes-reads
-use Rattle.wire.proofs.number.from_each_byte.Reads as from-each-byte-reads
-use Rattle.wire.proofs.number.two_bytes.Reads as two-bytes-reads
 
 two-bytes-requires : tie.Need-two-bytes-requires
 two-bytes-requires c κs = search needs

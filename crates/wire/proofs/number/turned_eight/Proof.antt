@@ -2,9 +2,6 @@ use borrow.Author.Needs.{needs}
 use Rattle.wire.specs.Number.{turnedEight}
 use Rattle.wire.proofs.number.turned_eight.Statement.{statement}
 use Rattle.wire.proofs.number.turned_eight.Tie as tie
-use Rattle.wire.proofs.number.turned_eight.Reads as reads
-use Rattle.wire.proofs.number.turned_eight.Lts as lts
-use Rattle.wire.proofs.number.turned_four.Reads as turned-four-reads
 
 turned-four-requires : tie.Need-turned-four-requires
 turned-four-requires c κs = search needs

@@ -2,8 +2,6 @@ use borrow.Author.Needs.{needs}
 use Rattle.wire.specs.Number.{turnedFour}
 use Rattle.wire.proofs.number.turned_four.Statement.{statement}
 use Rattle.wire.proofs.number.turned_four.Tie as tie
-use Rattle.wire.proofs.number.turned_four.Reads as reads
-use Rattle.wire.proofs.number.turned_four.Lts as lts
 
 mul-result : tie.Need-mul-result
 mul-result c = search needs

@@ -2,8 +2,6 @@ use borrow.Author.Needs.{needs}
 use Rattle.wire.specs.Number.{turnedTwo}
 use Rattle.wire.proofs.number.turned_two.Statement.{statement}
 use Rattle.wire.proofs.number.turned_two.Tie as tie
-use Rattle.wire.proofs.number.turned_two.Reads as reads
-use Rattle.wire.proofs.number.turned_two.Lts as lts
 
 mul-result : tie.Need-mul-result
 mul-result c = search needs

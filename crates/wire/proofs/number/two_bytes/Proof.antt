@@ -2,10 +2,6 @@ use Rattle.wire.proofs.Digits.{turned-two, same-two}
 use borrow.Author.Needs.{needs}
 use Rattle.wire.proofs.number.two_bytes.Statement.{statement}
 use Rattle.wire.proofs.number.two_bytes.Tie as tie
-use Rattle.wire.proofs.number.two_bytes.Reads as reads
-use Rattle.wire.proofs.number.two_bytes.Lts as lts
-use Rattle.wire.proofs.number.turned_two.Reads as turned-two-reads
-use Rattle.wire.proofs.number.two_here.Reads as two-here-reads
 
 two-here-requires : tie.Need-two-here-requires
 two-here-requires c κs = search needs

@@ -2,9 +2,6 @@ use Rattle.wire.proofs.Digits.{le-two, two-bytes}
 use borrow.Author.Needs.{needs}
 use Rattle.wire.proofs.number.two_here.Statement.{statement}
 use Rattle.wire.proofs.number.two_here.Tie as tie
-use Rattle.wire.proofs.number.two_here.Reads as reads
-use Rattle.wire.proofs.number.two_here.Lts as lts
-use Rattle.wire.proofs.number.two.Reads as two-reads
 
 add-two : tie.Need-add-two
 add-two c = search needs

@@ -3,9 +3,6 @@ use Rattle.wire.proofs.Words.{extend-plus, extend-minus, half-some, hal
 use borrow.Author.Needs.{needs}
 use Rattle.wire.proofs.signed.extend.Statement.{statement}
 use Rattle.wire.proofs.signed.extend.Tie as tie
-use Rattle.wire.proofs.signed.extend.Reads as reads
-use Rattle.wire.proofs.signed.extend.Lts as lts
-use Rattle.wire.proofs.signed.half_of.Reads as half-of-reads
 
 half-of-requires : tie.Need-half-of-requires
 half-of-requires c κs = search needs

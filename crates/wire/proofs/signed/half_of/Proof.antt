@@ -2,8 +2,6 @@ use borrow.Author.Needs.{needs}
 use Rattle.wire.proofs.Words.{half-at, half-last}
 use Rattle.wire.proofs.signed.half_of.Statement.{statement}
 use Rattle.wire.proofs.signed.half_of.Tie as tie
-use Rattle.wire.proofs.signed.half_of.Reads as reads
-use Rattle.wire.proofs.signed.half_of.Lts as lts
 
 returns : tie.Need-returns
 returns c = search (needs, half-at, half-last)

@@ -2,9 +2,6 @@ use Rattle.wire.proofs.Moves.{padding-none, padding-gap}
 use borrow.Author.Needs.{needs}
 use Rattle.wire.proofs.cursor.Cursor.padding.Statement.{statement}
 use Rattle.wire.proofs.cursor.Cursor.padding.Tie as tie
-use Rattle.wire.proofs.cursor.Cursor.padding.Reads as reads
-use Rattle.wire.proofs.cursor.Cursor.padding.Lts as lts
-use Rattle.wire.proofs.cursor.gap.Reads as gap-reads
 
 returns : tie.Need-returns
 returns c = search (needs, padding-none, padding-gap)

@@ -2,10 +2,6 @@ use Rattle.wire.proofs.Moves.{alignment-some, start-at}
 use borrow.Author.Needs.{needs}
 use Rattle.wire.proofs.cursor.Cursor.start.Statement.{statement}
 use Rattle.wire.proofs.cursor.Cursor.start.Tie as tie
-use Rattle.wire.proofs.cursor.Cursor.start.Reads as reads
-use Rattle.wire.proofs.cursor.Cursor.start.Lts as lts
-use Rattle.wire.proofs.cursor.alignment_of.Reads as alignment-of-reads
-use Rattle.wire.proofs.cursor.gap.Reads as gap-reads
 
 returns : tie.Need-returns
 returns c = search (needs, alignment-some, start-at)
