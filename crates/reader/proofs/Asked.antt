@@ -21,7 +21,8 @@ use Rattle.values.specs.Header.{afterDheader}
 use Rattle.reader.specs.Value.{isSequence, primitiveElement, readAs}
 use Rattle.reader.specs.Member.{byLength, elementCount}
 use Rattle.reader.specs.Structure.{absorbs}
-use Rattle.reader.specs.Nested.{isMutable, isStructure, contentsAt}
+use Rattle.reader.specs.Nested.{isMutable, contentsAt}
+use Rattle.reader.specs.Several.{isStructure}
 
 pub sequence-is : (t : BookType) (k : ℕ) → k ≡ t .kind → eqb k 25 ≡ isSequence t
 unfolding isSequence

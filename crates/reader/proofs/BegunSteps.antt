@@ -28,7 +28,8 @@ use Rattle.table.specs.Outcome.{Outcome, short, andThen}
 use Rattle.table.proofs.Outcomes.{then-short}
 use Rattle.reader.specs.Value.{Nest}
 use Rattle.reader.specs.Member.{onLocated, mmemberOf}
-use Rattle.reader.specs.Structure.{mmembersOf, begunBy, alignedFor, endedBy, onEnding, mstructBy}
+use Rattle.reader.specs.Structure.{mmembersOf, onEnding, mstructBy}
+use Rattle.reader.specs.Several.{begunBy, alignedFor, endedBy}
 
 at-not-short : (end : ℕ) (d : Cursor) (x : Shortage) → ending.At end d ≡ ending.Short x → ⊥
 at-not-short end d x e = absurd (let z : _≡_ {A = ℕ} 0 1 = cc in omega arith)

@@ -46,7 +46,8 @@ use Rattle.values.specs.Quick.{Quickly}
 use Rattle.values.proofs.Quickly.{quick-done, quick-none}
 use Rattle.reader.specs.Value.{Nest}
 use Rattle.reader.specs.Member.{foundOf, onLocated, mmemberOf}
-use Rattle.reader.specs.Structure.{mmembersOf, atSentinel, endedBy}
+use Rattle.reader.specs.Structure.{mmembersOf, atSentinel}
+use Rattle.reader.specs.Several.{endedBy}
 
 -- what ends a structure
 module _ (s : List ℕ) (set : Settings) (end : ℕ) (c : Cursor) (n : ℕ) (t : List ℕ) where

@@ -37,9 +37,10 @@ use Rattle.table.proofs.Filling.{filled-none, filled-below, filled-row, full-fi
 use Rattle.table.proofs.Outcomes.{is-read, is-short, is-refused, is-same, no-room, some-room, was-read, was-short, was-refused, then-read, then-short, then-refused, Sofar, sofar-start, sofar-more, sofar-read, sofar-short, sofar-refused}
 use Rattle.reader.specs.Value.{Nest, isSequence, primitiveElement, openedFrom, valueOf}
 use Rattle.reader.specs.Member.{byLength, foundBy, foundOf, fmemberBy, fmemberOf}
-use Rattle.reader.specs.Structure.{fmembersOf, mmembersOf, begunBy, alignedFor, endedBy, mstructBy}
+use Rattle.reader.specs.Structure.{fmembersOf, mmembersOf, mstructBy}
 use Rattle.reader.proofs.BegunSteps.{begun-short, begun-at}
-use Rattle.reader.specs.Nested.{isMutable, isStructure, contentsAt, asFinal, asMutable, bodyBy, bodyOf, structureBody, structureOf, severalOf, openedIf, nestedAt}
+use Rattle.reader.specs.Nested.{isMutable, contentsAt, asFinal, asMutable, bodyBy, bodyOf, openedIf, nestedAt}
+use Rattle.reader.specs.Several.{isStructure, begunBy, alignedFor, endedBy, structureBody, structureOf, severalOf}
 
 -- ---- a run of structures
 module _ (types : List BookType) (s : List ℕ) (set : Settings) (nest : Nest) (mutable : Bool) (t : BookType) (ty count : ℕ) where

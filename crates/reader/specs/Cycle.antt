@@ -4,23 +4,23 @@ use mathlib.Core.Bool.{Bool}
 use mathlib.Core.List.{List}
 use Rattle.wire.specs.declared.cursor.Cursor.{Cursor}
 use Rattle.wire.specs.declared.settings.Settings.{Settings}
-use Rattle.wire.specs.declared.settings.Version.{Version}
 use Rattle.book.specs.Types.{BookType, Member}
 use Rattle.book.specs.Places.{typesBy}
 use Rattle.table.specs.Outcome.{Outcome, andThen}
 use Rattle.choice.specs.declared.discriminator.Discriminator.{Discriminator}
 use Rattle.reader.specs.Value.{Nest, openedFrom, elementsOf, listValue, valueOf}
 use Rattle.reader.specs.Member.{foundOf, mmemberOf, optionalBy, fmemberOf}
-use Rattle.reader.specs.Structure.{fmembersOf, mmembersOf, endedBy}
+use Rattle.reader.specs.Structure.{fmembersOf, mmembersOf}
 use Rattle.reader.specs.Union.{onDiscriminator, membersBy}
-use Rattle.reader.specs.Nested.{bodyOf, severalOf, nestedAt}
+use Rattle.reader.specs.Nested.{bodyOf, nestedAt}
+use Rattle.reader.specs.Several.{endedBy, severalOf}
 
 module _ (book index s : List ℕ) (set : Settings) (d : ℕ) where
   abbrev pub nest : Nest
   nest = nestedAt (typesBy book index) s set d
 
-  abbrev pub complexIn : ℕ → ℕ → Cursor → ℕ → Outcome
-  complexIn ty count c room = openedFrom (typesBy book index) s set nest ty count 0 c room
+  abbrev pub openedIn : ℕ → ℕ → Cursor → ℕ → Outcome
+  openedIn ty count c room = openedFrom (typesBy book index) s set nest ty count 0 c room
 
   abbrev pub elementsIn : ℕ → ℕ → ℕ → Cursor → ℕ → Outcome
   elementsIn = elementsOf (typesBy book index) s set nest
@@ -55,8 +55,8 @@ module _ (book index s : List ℕ) (set : Settings) (d : ℕ) where
   abbrev pub unionIn : Bool → BookType → Cursor → ℕ → Outcome
   unionIn mutable t c room = membersBy (typesBy book index) s set nest mutable (t .members) c room
 
-  abbrev pub selectedIn : Bool → Member → BookType → Cursor → ℕ → Discriminator → Outcome
-  selectedIn mutable disc t c room v = onDiscriminator (typesBy book index) s set nest mutable disc (t .members) c room v
+  abbrev pub chosenIn : Bool → Member → BookType → Cursor → ℕ → Discriminator → Outcome
+  chosenIn mutable disc t c room v = onDiscriminator (typesBy book index) s set nest mutable disc (t .members) c room v
 
   abbrev pub bodyIn : BookType → Cursor → ℕ → Outcome
   bodyIn = bodyOf (typesBy book index) s set nest

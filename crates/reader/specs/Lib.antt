@@ -3,4 +3,5 @@ pub mod Member
 pub mod Structure
 pub mod Union
 pub mod Nested
+pub mod Several
 pub mod Cycle

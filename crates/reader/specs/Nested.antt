@@ -1,9 +1,9 @@
 -- Opening a value, and the depth.
-use Prim.Native.Nat.{ℕ, zero, suc, _+_, _-_}
-use mathlib.Core.List.{List, []}
+use Prim.Native.Nat.{ℕ, zero, suc, _-_}
+use mathlib.Core.List.{List}
 use lib.Dec.{eqb}
-use Rattle.ground.specs.Choice.{pick, both}
-use mathlib.Core.Bool.{Bool, true, false, not}
+use Rattle.ground.specs.Choice.{pick}
+use mathlib.Core.Bool.{Bool, true, false}
 use Rattle.wire.specs.declared.cursor.Cursor.{Cursor}
 use Rattle.wire.specs.declared.settings.Settings.{Settings}
 use Rattle.wire.specs.declared.cursor.Place.{Place}
@@ -12,7 +12,7 @@ use Rattle.wire.specs.Place.{cursorAt, afterMove}
 use Rattle.kinds.specs.Kinds.{opens}
 use Rattle.book.specs.Types.{BookType, typeNo}
 use Rattle.table.specs.declared.out.Refusal.the-variants.{InvalidType, TooDeep}
-use Rattle.table.specs.Outcome.{Outcome, read, short, refused, roomFor, closed, andThen}
+use Rattle.table.specs.Outcome.{Outcome, short, refused, roomFor, closed}
 use Rattle.values.specs.Header.{afterDheader, unheardDheader}
 use Rattle.values.specs.Scalar.{enumOf}
 use Rattle.reader.specs.Value.{Nest}
@@ -22,11 +22,6 @@ use Rattle.reader.specs.Union.{membersBy}
 -- "0 Final, 1 Appendable, 2 Mutable"
 unfoldable pub isMutable : BookType → Bool
 isMutable t = eqb (t .extensibility) 2
-
--- a structure, Mutable or not
-unfoldable pub isStructure : Bool → BookType → Bool
-isStructure true t = both (eqb (t .kind) 22) (isMutable t)
-isStructure false t = both (eqb (t .kind) 22) (not (isMutable t))
 
 -- where the contents of a Final or Appendable value begin.
 -- "XCDR2 Appendable structures and unions read a DHEADER first and ignore its value; if that read is short, the value itself answers 1."
@@ -53,19 +48,6 @@ module _ (types : List BookType) (s : List ℕ) (set : Settings) (nest : Nest) w
   -- what stands beneath a value's row: 21 ENUM, 22 STRUCTURE, 23 UNION
   unfoldable pub bodyOf : BookType → Cursor → ℕ → Outcome
   bodyOf t c room = bodyBy (eqb (t .kind) 21) (isMutable t) t c room
-
-  -- of a structure alone; and the structure with its row
-  unfoldable pub structureBody : Bool → BookType → Cursor → ℕ → Outcome
-  structureBody true t c room = mstructBy types s set nest (set .version) t c room
-  structureBody false t c room = afterMove short (contentsAt s set t c) (λ d. fmembersOf types s set nest t (t .members) d room)
-
-  unfoldable pub structureOf : Bool → BookType → ℕ → ℕ → Cursor → ℕ → Outcome
-  structureOf mutable t ty id c room = roomFor room (closed 22 id ty (structureBody mutable t c (room - 1)))
-
-  -- structures of one type, one after the other: the first has this id, those after number i are numbered on
-  unfoldable pub severalOf : Bool → BookType → ℕ → ℕ → ℕ → ℕ → Cursor → ℕ → Outcome
-  severalOf mutable t ty id zero i c room = read c []
-  severalOf mutable t ty id (suc left) i c room = andThen (structureOf mutable t ty id c room) (λ d used. severalOf mutable t ty (i + 1) left (i + 1) d (room - used))
 
   -- "Opening a value asks in order: kind 21 to 23 (else 3), .., room (13)."
   unfoldable pub openedIf : Bool → Nest

@@ -7,7 +7,7 @@ use Rattle.wire.specs.declared.cursor.Cursor.{Cursor}
 use Rattle.wire.specs.declared.settings.Settings.{Settings}
 use Rattle.wire.specs.declared.settings.Version.{Version}
 use Rattle.wire.specs.declared.settings.Version.the-variants.{Xcdr1, Xcdr2}
-use Rattle.wire.specs.Place.{cursorAt, alignTo, afterMove}
+use Rattle.wire.specs.Place.{cursorAt, afterMove}
 use Rattle.book.specs.Types.{BookType, Member}
 use Rattle.lookup.specs.Xcdr1.{seekToSentinel}
 use Rattle.lookup.specs.Dheader.{endingAt}
@@ -26,21 +26,6 @@ module _ (s : List ℕ) (set : Settings) where
   unfoldable pub atSentinel : Cursor → Outcome
   atSentinel c = afterMove short (seekToSentinel s set c) (λ d. read d [])
 
-  -- where the members of a Mutable structure begin, with the end that XCDR2 tells; and what ends it, after its members
-  unfoldable pub begunBy : Version → Cursor → Ending
-  begunBy Xcdr1 c = ending.At 0 c
-  begunBy Xcdr2 c = endingAt s set c
-
-  -- .. and the first lookup's alignment, "align 4 (if short, the member answers 1)"; a structure without members has none
-  unfoldable pub alignedFor : Ending → List Member → Ending
-  alignedFor (ending.Short x) ms = ending.Short x
-  alignedFor (ending.At end c) [] = ending.At end c
-  alignedFor (ending.At end c) (m ∷ ms) = afterMove ending.Short (alignTo s (set .version) c 4) (λ d. ending.At end d)
-
-  unfoldable pub endedBy : Version → ℕ → Cursor → Outcome
-  endedBy Xcdr1 end c = atSentinel c
-  endedBy Xcdr2 end c = read (cursorAt end (c .origin)) []
-
 module _ (types : List BookType) (s : List ℕ) (set : Settings) (nest : Nest) where
   -- "Final and Appendable structures: members in order."
   unfoldable pub fmembersOf : BookType → List Member → Cursor → ℕ → Outcome
@@ -57,6 +42,7 @@ module _ (types : List BookType) (s : List ℕ) (set : Settings) (nest : Nest) w
   onEnding t room (ending.Short x) = short x
   onEnding t room (ending.At end c) = andThen (mmembersOf (t .members) c room) (λ d used. read (cursorAt end (d .origin)) [])
 
+  -- by the version: "A Mutable structure then looks for 0x3F02 itself", and in XCDR2 "stands at its end"
   unfoldable pub mstructBy : Version → BookType → Cursor → ℕ → Outcome
   mstructBy Xcdr1 t c room = andThen (mmembersOf (t .members) c room) (λ d used. atSentinel s set d)
   mstructBy Xcdr2 t c room = onEnding t room (endingAt s set c)

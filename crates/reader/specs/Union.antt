@@ -32,6 +32,7 @@ module _ (types : List BookType) (s : List ℕ) (set : Settings) (nest : Nest) w
   onSelected mutable none c room = refused InvalidData
   onSelected mutable (some m) c room = memberBy mutable m c room
 
+  -- "Not stored: 14. Kinds 1, 5, 8 to 11, 14 and bitmasks stored as 8: 3."
   unfoldable pub onDiscriminator : Bool → Member → List Member → Cursor → ℕ → Discriminator → Outcome
   onDiscriminator mutable disc ms c room Absent = refused NoDiscriminator
   onDiscriminator mutable disc ms c room Unfit = refused InvalidType

@@ -20,6 +20,8 @@ use book::member::after;
 use book::member::id;
 use book::member::members;
 use book::member::type_index;
+use kinds::names::ENUM;
+use kinds::names::STRUCTURE;
 use lookup::ahead::first;
 use lookup::ahead::onward;
 use lookup::ahead::value_at;
@@ -58,7 +60,7 @@ pub fn as_nested(
     if depth == 0 {
         return Out::Refused(Refusal::TooDeep);
     }
-    if kind == 22 {
+    if kind == STRUCTURE {
         if types::is_mutable(book, p) {
             return mstruct(book, index, s, set, t, p, ty, id, 1, c, n, depth - 1);
         }
@@ -102,7 +104,7 @@ pub fn body(
     ensures { λ r. ⌜ Done (bodyIn (now (book .entry)) (now (index .entry)) (now (s .entry)) set depth (typeAt (now (book .entry)) at) c (room (now (t .entry)) n)) n (now (t .entry)) (now (t .exit)) r ⌝ }
 {
     let kind = types::kind_at(book, at);
-    if kind == 21 {
+    if kind == ENUM {
         return enum_type(s, set, t, types::base_at(book, at), c, n);
     }
     if types::is_mutable(book, at) {

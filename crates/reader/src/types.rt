@@ -3,8 +3,9 @@ ghost use mathlib.Core.Path.{_≡_};
 ghost use Rattle.book.specs.Places.{memberAt, typeAt, typesBy};
 ghost use Rattle.reader.specs.Value.{isSequence, primitiveElement, readAs};
 ghost use Rattle.reader.specs.Member.{byLength, elementCount};
-ghost use Rattle.reader.specs.Structure.{absorbs, alignedFor, begunBy, endedBy};
-ghost use Rattle.reader.specs.Nested.{isMutable, isStructure, contentsAt};
+ghost use Rattle.reader.specs.Structure.{absorbs};
+ghost use Rattle.reader.specs.Nested.{isMutable, contentsAt};
+ghost use Rattle.reader.specs.Several.{isStructure, alignedFor, begunBy, endedBy};
 ghost use mathlib.Core.Bool.{true, false};
 ghost use Rattle.table.specs.Outcome.{Done};
 ghost use mathlib.Core.List.{List};
@@ -18,6 +19,9 @@ use book::types::bound;
 use book::types::element;
 use book::types::extensibility;
 use book::types::is_bounded;
+use kinds::names::BITMASK;
+use kinds::names::SEQUENCE;
+use kinds::names::STRUCTURE;
 use lookup::ahead::Hint;
 use lookup::dheader::Ending;
 use lookup::dheader::dheader;
@@ -44,7 +48,7 @@ pub fn base_at(book: &[u8], at: usize) -> u8
 pub fn is_sequence(book: &[u8], at: usize) -> bool
     ensures { λ r. ⌜ r ≡ isSequence (typeAt (now (book .entry)) at) ⌝ }
 {
-    kind_at(book, at) == 25
+    kind_at(book, at) == SEQUENCE
 }
 
 pub fn is_mutable(book: &[u8], at: usize) -> bool
@@ -56,7 +60,7 @@ pub fn is_mutable(book: &[u8], at: usize) -> bool
 fn final_by(book: &[u8], at: usize) -> bool
     ensures { λ r. ⌜ r ≡ isStructure false (typeAt (now (book .entry)) at) ⌝ }
 {
-    if kind_at(book, at) != 22 {
+    if kind_at(book, at) != STRUCTURE {
         return false;
     }
     !is_mutable(book, at)
@@ -77,7 +81,7 @@ pub fn is_final(book: &[u8], at: usize) -> bool
 pub fn is_mutable_structure(book: &[u8], at: usize) -> bool
     ensures { λ r. ⌜ r ≡ isStructure true (typeAt (now (book .entry)) at) ⌝ }
 {
-    if kind_at(book, at) != 22 {
+    if kind_at(book, at) != STRUCTURE {
         return false;
     }
     is_mutable(book, at)
@@ -88,7 +92,7 @@ pub fn read_as(book: &[u8], at: usize) -> u8
     ensures { λ r. ⌜ r ≡ readAs (typeAt (now (book .entry)) at) ⌝ }
 {
     let kind = kind_at(book, at);
-    if kind == 19 {
+    if kind == BITMASK {
         return kinds::bitmask_stored(is_bounded(book, at), bound(book, at));
     }
     kind

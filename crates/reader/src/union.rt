@@ -5,7 +5,7 @@ ghost use Rattle.table.specs.Rows.{room};
 ghost use Rattle.table.specs.Outcome.{Done};
 ghost use mathlib.Core.Bool.{true, false};
 ghost use Rattle.values.specs.Header.{unheardDheader};
-ghost use Rattle.reader.specs.Cycle.{unionIn, selectedIn};
+ghost use Rattle.reader.specs.Cycle.{unionIn, chosenIn};
 use crate::member::mmember;
 use crate::member::option;
 use crate::value::value;
@@ -117,7 +117,7 @@ pub fn chosen(
     n: usize,
     depth: usize,
 ) -> Out
-    ensures { λ r. ⌜ Done (selectedIn (now (book .entry)) (now (index .entry)) (now (s .entry)) set depth mutable (memberAt (now (book .entry)) p) (typeAt (now (book .entry)) at) c (room (now (t .entry)) n) v) n (now (t .entry)) (now (t .exit)) r ⌝ }
+    ensures { λ r. ⌜ Done (chosenIn (now (book .entry)) (now (index .entry)) (now (s .entry)) set depth mutable (memberAt (now (book .entry)) p) (typeAt (now (book .entry)) at) c (room (now (t .entry)) n) v) n (now (t .entry)) (now (t .exit)) r ⌝ }
 {
     match v {
         Discriminator::Absent => Out::Refused(Refusal::NoDiscriminator),

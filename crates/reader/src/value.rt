@@ -3,7 +3,7 @@ ghost use mathlib.Core.Path.{_≡_};
 ghost use Rattle.book.specs.Places.{typeAt};
 ghost use Rattle.table.specs.Rows.{room};
 ghost use Rattle.table.specs.Outcome.{Done};
-ghost use Rattle.reader.specs.Cycle.{complexIn, elementsIn, listIn, valueIn};
+ghost use Rattle.reader.specs.Cycle.{openedIn, elementsIn, listIn, valueIn};
 use crate::as_nested;
 use crate::fstruct;
 use crate::mstruct;
@@ -16,6 +16,11 @@ use crate::types::read_as;
 use book::index::place;
 use book::types::bound;
 use book::types::element;
+use kinds::names::ARRAY;
+use kinds::names::BYTE;
+use kinds::names::NONE;
+use kinds::names::SEQUENCE;
+use kinds::names::UINT8;
 use table::out::Out;
 use table::out::Refusal;
 use table::rows::Row;
@@ -46,7 +51,7 @@ pub fn value(
 {
     let p = place(book, index, ty);
     let kind = kind_at(book, p);
-    if kind == 0 {
+    if kind == NONE {
         return Out::Read(c, n);
     }
     if kinds::unsupported_member(kind) {
@@ -55,7 +60,7 @@ pub fn value(
     if kinds::opens(kind) {
         return as_nested(book, index, s, set, t, ty, id, c, n, depth);
     }
-    if (kind == 25) | (kind == 26) {
+    if (kind == SEQUENCE) | (kind == ARRAY) {
         return listed(book, index, s, set, t, p, id, c, n, depth);
     }
     scalar(s, set, t, read_as(book, p), id, c, n)
@@ -130,7 +135,7 @@ pub fn elements(
         put_row(t, n, row);
         return opened(book, index, s, set, t, ty, count, c, n + 1, depth);
     }
-    if (kind == 2) | (kind == 13) {
+    if (kind == BYTE) | (kind == UINT8) {
         return block(s, set, t, kind, id, count, c, n);
     }
     list(s, set, t, read_as(book, p), id, count, c, n)
@@ -149,7 +154,7 @@ pub fn opened(
     n: usize,
     depth: usize,
 ) -> Out
-    ensures { λ r. ⌜ Done (complexIn (now (book .entry)) (now (index .entry)) (now (s .entry)) set depth ty count c (room (now (t .entry)) n)) n (now (t .entry)) (now (t .exit)) r ⌝ }
+    ensures { λ r. ⌜ Done (openedIn (now (book .entry)) (now (index .entry)) (now (s .entry)) set depth ty count c (room (now (t .entry)) n)) n (now (t .entry)) (now (t .exit)) r ⌝ }
 {
     let at = place(book, index, ty);
     if is_final(book, at) {

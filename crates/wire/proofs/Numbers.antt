@@ -203,7 +203,7 @@ byte-there s set c h =
 module _ (s : List ℕ) (set : Settings) (c : Cursor) (n : ℕ) (d : Cursor) (after : c .origin ≤ c .pos) where
   four-moved : (e : Cursor) → alignTo s (set .version) c 4 ≡ place.At e → (r : Place) → seekTo s e 4 ≡ r → onBytes s (set .order) (e .pos) 4 r ≡ number.Got n d → alignTo s (set .version) d 4 ≡ place.At d
   unfolding onBytes
-  four-moved e a (place.Short x) f g = absurd (apart x n d g)
+  four-moved e a (place.Short x) f g = absurd (short-got x n d g)
   four-moved e a (place.At y) f g =
       let k = seek-inv s e 4 y f in
       let h : y ≡ d = cc in
@@ -217,7 +217,7 @@ module _ (s : List ℕ) (set : Settings) (c : Cursor) (n : ℕ) (d : Cursor) (af
 
   four-by : (r : Place) → alignTo s (set .version) c 4 ≡ r → onAligned s (set .order) 4 r ≡ number.Got n d → alignTo s (set .version) d 4 ≡ place.At d
   unfolding onAligned numberHere
-  four-by (place.Short x) a g = absurd (apart x n d g)
+  four-by (place.Short x) a g = absurd (short-got x n d g)
   four-by (place.At e) a g = four-moved e a (seekTo s e 4) refl g
 
   pub four-aligned : readNumber s set c 4 ≡ number.Got n d → alignTo s (set .version) d 4 ≡ place.At d
