@@ -124,7 +124,7 @@ impl Parser {
                 self.expect(")");
                 t.members = self.members(false);
             }
-            "mask" if self.take("(") => {
+            "mask" | "str8" | "str16" if self.take("(") => {
                 t.bound = Some(number(&self.next()) as u32);
                 self.expect(")");
             }
@@ -195,7 +195,7 @@ fn written(line: usize, text: &str) -> Written {
     let mut p = Parser { words: split(kind), at: 0, types: Vec::new() };
     let root = p.parse();
     let mut message = bytes(identifier);
-    message.extend([0, 0]);
+    message.resize(4, 0);
     message.extend(bytes(data));
     let mut said = answer.split_whitespace().map(|w| number(w) as usize);
     let (number, rows) = (said.next().unwrap_or(255) as u8, said.next().unwrap_or(0));

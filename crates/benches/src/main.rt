@@ -104,7 +104,7 @@ fn read(name: &[u8], book: &[u8], root: usize, message: &[u8]) {
     read_in(name, book, root, message, &mut table);
 }
 
-// Examples 1, 2, 4 to 7.
+// Examples 1, 2 and 4.
 fn scalars() {
     read(b"1", &INT32, 1, b"\x00\x01\x00\x00\xfe\xff\xff\xff");
     read(b"2", &INT32, 1, b"\x00\x01\x00\x00\xfe\xff\xff");
@@ -115,6 +115,10 @@ fn scalars() {
         b"\x00\x01\x00\x00\xfe\xff\xff",
     );
     read(b"4", &BOOLEAN, 1, b"\x00\x01\x00\x00\x02");
+}
+
+// Examples 5 to 7.
+fn texts_and_alignment() {
     read(b"5", &STRING8, 1, b"\x00\x01\x00\x00\x00\x00\x00\x00");
     read(
         b"5, with 41 added",
@@ -137,7 +141,7 @@ fn scalars() {
     );
 }
 
-// Examples 8 to 12.
+// Examples 8 and 9.
 fn lookups() {
     read(
         b"8",
@@ -157,6 +161,10 @@ fn lookups() {
         1,
         b"\x00\x03\x00\x00\x02\x3f\x02\x00\xaa\xaa\x00\x00\x01\x00\x02\x00\x34\x12\x00\x00",
     );
+}
+
+// Examples 10 to 12.
+fn members() {
     read(
         b"10",
         &MUTABLE_LIST,
@@ -191,10 +199,13 @@ fn chains() {
 }
 
 // The numbers that no example gives, and the order of refusals.
-fn numbers() {
+fn roots() {
     read(b"3", &INT32, 0, b"\x00\x01\x00\x00\xfe\xff\xff\xff");
     read(b"9", &INT32, 2, b"\x00\x01\x00\x00\xfe\xff\xff\xff");
     read(b"9 before 1", &INT32, 2, b"\x00\x01");
+}
+
+fn numbers() {
     read(b"1, a message of 3 bytes", &INT32, 1, b"\x00\x01\x00");
     read(
         b"2, identifier 0004",
@@ -238,15 +249,21 @@ fn lengths() {
     let longer = [0u8; 65537];
     read(b"13, 65537 bytes", &INT32, 1, &longer);
     read(b"13, 65537 bytes, root 2: 9 before 10", &INT32, 2, &longer);
+}
+
+fn data(name: &[u8], s: &[u8]) {
     let mut table = [0u64; 8];
-    let most = [0u8; 65532];
-    title(b"13, 65532 bytes of data");
-    let a = sinotayam::read_data(&INT32, 1, IDENTIFIER, &most, &mut table);
+    title(name);
+    let a = sinotayam::read_data(&INT32, 1, IDENTIFIER, s, &mut table);
     cases::lines::answer(a, &table);
+}
+
+// The same of data.
+fn data_lengths() {
+    let most = [0u8; 65532];
+    data(b"13, 65532 bytes of data", &most);
     let more = [0u8; 65533];
-    title(b"13, 65533 bytes of data");
-    let b = sinotayam::read_data(&INT32, 1, IDENTIFIER, &more, &mut table);
-    cases::lines::answer(b, &table);
+    data(b"13, 65533 bytes of data", &more);
 }
 
 // A number as it is printed.
@@ -266,31 +283,27 @@ fn broken() {
     read(b"8 before 9", &book, 2, b"\x00\x01\x00\x00\xfe\xff\xff\xff");
 }
 
-// Example 1 with an index: one that has room, and one that has none.
-fn prepared() {
+// Example 1 with an index.
+fn prepared_in(name: &[u8], index: &mut [u32]) {
     let mut table = [0u64; 8192];
-    let mut index = [0u32; 3];
-    title(b"prepared");
-    number(sinotayam::prepared::prepare(&INT32, &mut index));
+    title(name);
+    number(sinotayam::prepared::prepare(&INT32, index));
     let a = sinotayam::read_prepared(
         &INT32,
-        &index,
+        index,
         1,
         b"\x00\x01\x00\x00\xfe\xff\xff\xff",
         &mut table,
     );
     cases::lines::answer(a, &table);
+}
+
+// One that has room, and one that has none.
+fn prepared() {
+    let mut index = [0u32; 3];
+    prepared_in(b"prepared", &mut index);
     let mut short = [0u32; 2];
-    title(b"prepared, 2 words");
-    number(sinotayam::prepared::prepare(&INT32, &mut short));
-    let b = sinotayam::read_prepared(
-        &INT32,
-        &short,
-        1,
-        b"\x00\x01\x00\x00\xfe\xff\xff\xff",
-        &mut table,
-    );
-    cases::lines::answer(b, &table);
+    prepared_in(b"prepared, 2 words", &mut short);
 }
 
 // Example 12's text: row 0 is no text, row 1 is, row 2 is all 0; and row 1 in data that ends before it.
@@ -300,21 +313,10 @@ fn texts() {
     let message = b"\x00\x0b\x00\x00\x0a\x00\x00\x00\x01\x00\x00\x50\x02\x00\x00\x00\x41\x00";
     let a = sinotayam::read(&MUTABLE_STRING8, 1, message, &mut table);
     cases::lines::answer(a, &table);
-    text(
-        &table,
-        0,
-        b"\x0a\x00\x00\x00\x01\x00\x00\x50\x02\x00\x00\x00\x41\x00",
-    );
-    text(
-        &table,
-        1,
-        b"\x0a\x00\x00\x00\x01\x00\x00\x50\x02\x00\x00\x00\x41\x00",
-    );
-    text(
-        &table,
-        2,
-        b"\x0a\x00\x00\x00\x01\x00\x00\x50\x02\x00\x00\x00\x41\x00",
-    );
+    let s = b"\x0a\x00\x00\x00\x01\x00\x00\x50\x02\x00\x00\x00\x41\x00";
+    text(&table, 0, s);
+    text(&table, 1, s);
+    text(&table, 2, s);
     text(
         &table,
         1,
@@ -338,10 +340,14 @@ fn checks() {
 
 fn main() {
     scalars();
+    texts_and_alignment();
     rooms();
     lookups();
+    members();
     chains();
     lengths();
+    data_lengths();
+    roots();
     numbers();
     broken();
     prepared();

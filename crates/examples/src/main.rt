@@ -22,7 +22,9 @@ fn main() {
     links();
     members();
     first_of_union();
-    allowed();
+    right();
+    allowed_types();
+    allowed_members();
     bounds();
 }
 
@@ -96,8 +98,8 @@ fn first_of_union() {
     changed(b"union's first with a label", &LABELLED, 23, 23);
 }
 
-// Right books: example 1's, and what no rule names.
-fn allowed() {
+// Right books: example 1's, and the smallest.
+fn right() {
     show(b"example 1", &EXAMPLE1);
     show(b"INT32", &PLAIN);
     show(b"sequence", &SEQUENCE);
@@ -105,11 +107,18 @@ fn allowed() {
     show(b"union of its discriminator", &UNION);
     show(b"two members", &PAIR);
     show(b"structure's member with a label", &LABELLED);
+}
+
+// What no rule names.
+fn allowed_types() {
     changed_twice(b"array of bound 0", &SEQUENCE, 23, 26, 26, 1);
     changed_twice(b"INT32 with a bound", &PLAIN, 12, 1, 16, 5);
     changed(b"Mutable INT32", &PLAIN, 10, 2);
     changed(b"enum of base 27", &ENUM, 11, 27);
     changed(b"structure without members", &PLAIN, 9, 22);
+}
+
+fn allowed_members() {
     changed_twice(b"flags 3, Trim", &EXAMPLE1, 41, 3, 42, 2);
     changed_twice(b"union's first optional, UseDefault", &UNION, 41, 1, 42, 0);
     changed(b"union's first of kind 15", &UNION, 9, 15);

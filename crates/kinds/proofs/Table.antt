@@ -67,6 +67,11 @@ primitive-align k p h =
     let t : T (word k) = rw (ne-eqb k 11 h) at (words k (r .0) (omega arith)) in
     (leb→le 1 (alignOf k) (both-left (leb 1 (alignOf k)) (leb (alignOf k) 8) t), leb→le (alignOf k) 8 (both-right (leb 1 (alignOf k)) (leb (alignOf k) 8) t))
 
+-- "BYTE is stored as 13."
+byte-stored : storedOf 2 ≡ 13
+unfolding storedOf
+byte-stored = refl
+
 -- a stored kind is one of the 28
 pub stored-listed : (k : ℕ) → storedOf k ≤ 27
 unfolding storedOf

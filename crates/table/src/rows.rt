@@ -1,6 +1,6 @@
 // Value rows in the lent table. Nobody else knows how many words a row has.
 ghost use mathlib.Core.Path.{_≡_};
-ghost use Prim.Native.Nat.{_+_, _-_, _*_, _≤_};
+ghost use Prim.Native.Nat.{_+_, _*_, _≤_};
 ghost use lib.ListN.{length};
 ghost use Rattle.table.specs.Rows.{width, noRoom, putRow, rowAt, clearedFrom};
 
