@@ -214,6 +214,6 @@ pub fn ended_from(s: &[u8], set: Settings, end: usize, c: Cursor, h: Hint, n: us
             }
             ended(s, set, end, Cursor::new(next, c.origin), n)
         }
-        Version::Xcdr2 => Out::Read(Cursor::new(end, c.origin), n),
+        Version::Xcdr2 => ended(s, set, end, c, n),
     }
 }

@@ -1,4 +1,4 @@
-use Rattle.reader.proofs.LookedSteps.{ended-led, ended-second}
+use Rattle.reader.proofs.LookedSteps.{ended-led}
 use borrow.Author.Needs.{needs}
 use Rattle.reader.proofs.types.ended_from.Statement.{statement}
 use Rattle.reader.proofs.types.ended_from.Tie as tie
@@ -34,14 +34,14 @@ ended-requires-3 c κs = search needs
 enum-told-2 : tie.Need-enum-told-2
 enum-told-2 c = search needs
 
-new-requires-2 : tie.Need-new-requires-2
-new-requires-2 c κs = search needs
+ended-requires-4 : tie.Need-ended-requires-4
+ended-requires-4 c κs = search needs
 
 returns-3 : tie.Need-returns-3
 returns-3 c = λ t. ended-led _ _ _ _ _ _ t _ _ (c .before .new .ensures) (c .before .before .before .before .before .before .before .before .pre) (c .before .before .if2 .left) (c .before .before .before .if1 .left) (c .ended3 .ensures t)
 
 returns-4 : tie.Need-returns-4
-returns-4 c = λ t. ended-second _ _ _ _ _ t (search needs) _ (c .new2 .ensures)
+returns-4 c = λ t. c .ended4 .ensures t
 
 pub ended-from-spec : {M : Type 1} → statement M
 ended-from-spec =
@@ -56,6 +56,6 @@ ended-from-spec =
     new-requires
     ended-requires-3
     enum-told-2
-    new-requires-2
+    ended-requires-4
     returns-3
     returns-4)
