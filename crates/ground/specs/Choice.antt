@@ -19,6 +19,13 @@ unfoldable pub every : {A : Type 0} → (A → Bool) → List A → Bool
 every f [] = true
 every f (x ∷ xs) = both (f x) (every f xs)
 
+-- the same numbers in the same order
+unfoldable pub sameNumbers : List ℕ → List ℕ → Bool
+sameNumbers [] [] = true
+sameNumbers [] (y ∷ ys) = false
+sameNumbers (x ∷ xs) [] = false
+sameNumbers (x ∷ xs) (y ∷ ys) = both (eqb x y) (sameNumbers xs ys)
+
 -- k is one of these numbers
 abbrev pub among : List ℕ → ℕ → Bool
 among [] k = false

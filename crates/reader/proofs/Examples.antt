@@ -4,7 +4,7 @@ use mathlib.Core.Path.{_≡_, refl}
 use mathlib.Core.Bool.{Bool, true, false}
 use mathlib.Core.List.{List, [], _∷_}
 use lib.Dec.{eqb}
-use Rattle.ground.specs.Choice.{both}
+use Rattle.ground.specs.Choice.{both, every, sameNumbers}
 use Rattle.wire.specs.declared.settings.Settings.{Settings}
 use Rattle.wire.specs.declared.settings.ByteOrder.the-variants.{LittleEndian}
 use Rattle.wire.specs.declared.settings.Version.the-variants.{Xcdr1, Xcdr2}
@@ -92,25 +92,15 @@ examples =
     ∷ example (one (plain 16) 2) 1 le2 (0x0A ∷ 0 ∷ 0 ∷ 0 ∷ 1 ∷ 0 ∷ 0 ∷ 0x50 ∷ 2 ∷ 0 ∷ 0 ∷ 0 ∷ 0x41 ∷ 0 ∷ []) 0 (22 ∷ 0 ∷ 1 ∷ 1 ∷ 16 ∷ 1 ∷ 12 ∷ 1 ∷ [])
     ∷ []
 
-sameWords : List ℕ → List ℕ → Bool
-sameWords [] [] = true
-sameWords [] (y ∷ ys) = false
-sameWords (x ∷ xs) [] = false
-sameWords (x ∷ xs) (y ∷ ys) = both (eqb x y) (sameWords xs ys)
-
 -- the reading of an example with every definition on the way open: room for 2,048 rows, as the program `rows` has
 unfoldable pub ran : Example → outcome.Outcome
 unfolding seekTo alignTo paddingOf alignmentOf afterMove readNumber onAligned numberHere onBytes numberAt readBoolean onByte booleanIn readFloat128 halvesOf afterNumber extended alignOf elementSizeOf storedOf isPrimitive isSigned unsupportedMember unsupportedElement opens storedByBound bitmaskStored table37 table16 follow restGood bytesHere stringType unitThen readUnits onUnits unitsHere wideHere wstringType search.pastValue search.onTurn search.headersIn first.headerAt first.judged first.onHeader first.turnAt first.seekToPid first.standing first.seekToSentinel second.nextintTimes second.lengthByLc second.lengthOf second.steppedBack second.judged second.turnAt second.seekToPid locatedV1 locatedV2 lookedUp locate endingAt optional default bounded noType typeNo outcome.roomFor outcome.prepend outcome.andThen outcome.orEndIf outcome.closed outcome.backTo scalar.rowed scalar.boolWord scalar.onBoolean scalar.onFloat128 scalar.wordOf scalar.onNumber scalar.onText scalar.scalarOf scalar.enumOf list.elementsFrom list.listOf list.onBlock list.blockOf header.pastNumber header.dheaderBy header.afterDheader header.placeReached header.unheardDheader header.listStart header.countAt header.countFrom value.readAs value.isSequence value.primitiveElement value.openedFrom value.openedList value.elementsOf value.listValue value.valueOf member.byLength member.elementCount member.foundBy member.foundOf member.onLocated member.mmemberOf member.onPresent member.optionalBy member.fmemberBy member.fmemberOf structure.absorbs structure.fmembersOf structure.mmembersOf structure.atSentinel structure.onEnding structure.mstructBy union.membersBy nested.isMutable nested.contentsAt nested.asFinal nested.asMutable nested.bodyBy nested.bodyOf nested.openedIf nested.tooDeepIf nested.nestedAt nested.reading
 ran e = nested.reading (e .types) (e .bytes) (e .set) (e .root) 2048
 
 right : Example → Bool
-unfolding sameWords outcome.numberOf outcome.refusalNumber outcome.rowsOf words
-right e = both (eqb (outcome.numberOf (ran e)) (e .number)) (sameWords (words (outcome.rowsOf (ran e))) (e .rows))
+unfolding sameNumbers outcome.numberOf outcome.refusalNumber outcome.rowsOf words
+right e = both (eqb (outcome.numberOf (ran e)) (e .number)) (sameNumbers (words (outcome.rowsOf (ran e))) (e .rows))
 
-every : List Example → Bool
-every [] = true
-every (e ∷ es) = both (right e) (every es)
-
-all-right : every examples ≡ true
-unfolding examples ran sameWords right every
+all-right : every right examples ≡ true
+unfolding examples ran sameNumbers right every
 all-right = refl

@@ -2,7 +2,7 @@
 use Prim.Native.Nat.{ℕ, zero, suc, _+_, _-_, _*_, _≤_}
 use mathlib.Core.Path.{_≡_, refl, sym, ap, _∙_}
 use mathlib.Core.Bool.{Bool, true, false}
-use mathlib.Core.List.{List, _∷_}
+use mathlib.Core.List.{List}
 use native.Mathlib.Omega.{arith}
 use lib.ListN.{length}
 use lib.Dec.{eqb}
@@ -15,8 +15,8 @@ use Rattle.table.specs.declared.out.Out.{Out}
 use Rattle.table.specs.declared.out.Out.the-variants.{Read, Short, Refused}
 use Rattle.table.specs.Rows.{row, width, room, noRoom, putRow}
 use Rattle.table.specs.Outcome.{Outcome, refused, roomFor, closed, Done}
-use Rattle.table.proofs.Filling.{filled-none, filled-below, filled-row, full-fits, room-used}
-use Rattle.table.proofs.Outcomes.{is-read, is-short, is-refused, is-same, no-room, some-room, was-read, was-short, was-refused}
+use Rattle.table.proofs.Filling.{filled-none, full-fits}
+use Rattle.table.proofs.Outcomes.{is-short, is-refused, is-same, row-full, row-read, row-short, row-refused}
 use mathlib.Core.Bool.{not}
 use Rattle.wire.specs.declared.cursor.Place.{Place}
 use Rattle.wire.specs.declared.cursor.Place.the-variants as place
@@ -136,30 +136,18 @@ module _ (b index s : List ℕ) (set : Settings) (ty id : ℕ) (c : Cursor) (t :
         ∙ ap (λ (x : BookType). roomFor (room t n) (closed k id ty (bodyOf types s set (nestedAt types s set (D - 1)) x c (room t n - 1)))) (sym (at .is))
 
     module _ (deep : D ≡ 0 → ⊥) (f : Bool) (full : f ≡ noRoom t n) where
+      abbrev beneath : ℕ → Outcome
+      beneath x = bodyOf types s set (nestedAt types s set (D - 1)) (typeAt b p) c x
+
       pub nested-full : f ≡ true → Done nested n t t (Refused NoRoom)
-      nested-full e = is-refused (is-opened deep ∙ no-room t n _ f full e) (filled-none t n)
+      nested-full = row-full k id ty beneath t n f full (is-opened deep)
 
       module _ (fits : f ≡ false) (u : List ℕ) (r : Out) (h : Done (bodyOf types s set (nestedAt types s set (D - 1)) (typeAt b p) c (room t (n + 1))) (n + 1) t u r) where
-        abbrev beneath : Outcome
-        beneath = bodyOf types s set (nestedAt types s set (D - 1)) (typeAt b p) c (room t (n + 1))
-
-        is-closed : nested ≡ closed k id ty beneath
-        is-closed =
-            is-opened deep ∙ some-room t n _ f full fits
-            ∙ ap (λ (x : ℕ). closed k id ty (bodyOf types s set (nestedAt types s set (D - 1)) (typeAt b p) c x)) (room-used t t n 1 refl)
-
         pub nested-read : (e : Cursor) (m : ℕ) (v : List ℕ) → r ≡ Read e m → v ≡ putRow u n (row k id ty (m - n - 1)) → Done nested n t v (Read e m)
-        unfolding closed
-        nested-read e m v q w =
-            let x = was-read h q in
-            let l : m - n - 1 ≡ length (x .new) = omega (arith, x .count) in
-            is-read {rs = row k id ty (length (x .new)) ∷ x .new} (is-closed ∙ ap (closed k id ty) (x .is)) (omega (arith, x .count))
-            (rw (w, l) (filled-row (row k id ty (length (x .new))) (full-fits t n f full fits) (x .filled)))
+        nested-read = row-read k id ty beneath t n f full (is-opened deep) fits u r h
 
         pub nested-short : (x : Shortage) → r ≡ Short x → Done nested n t u (Short x)
-        unfolding closed
-        nested-short x q = let w = was-short h q in is-short (is-closed ∙ ap (closed k id ty) (w .is)) (filled-below (w .filled))
+        nested-short = row-short k id ty beneath t n f full (is-opened deep) fits u r h
 
         pub nested-refused : (x : Refusal) → r ≡ Refused x → Done nested n t u (Refused x)
-        unfolding closed
-        nested-refused x q = let w = was-refused h q in is-refused (is-closed ∙ ap (closed k id ty) (w .is)) (filled-below (w .filled))
+        nested-refused = row-refused k id ty beneath t n f full (is-opened deep) fits u r h

@@ -2,7 +2,7 @@
 use Rattle.table.proofs.Outcomes.{count-from, count-past}
 use Rattle.table.proofs.Filling.{full-fits}
 use Rattle.values.proofs.Scalars.{row-next}
-use Rattle.reader.proofs.ValueSteps.{complex-start, complex-turn, complex-short, complex-refused, complex-end, elements-unsupported, elements-full, elements-complex, elements-block, elements-list, value-none, value-unsupported, value-nested, value-list, value-scalar, list-short, list-got}
+use Rattle.reader.proofs.ValueSteps.{opened-start, opened-turn, opened-short, opened-refused, opened-end, elements-unsupported, elements-full, elements-opened, elements-block, elements-list, value-none, value-unsupported, value-nested, value-list, value-scalar, list-short, list-got}
 use Rattle.reader.proofs.MemberSteps.{found-length, found-value, mmember-short, mmember-absent, mmember-read, mmember-fell, mmember-refused, optional-looked, optional-short, optional-bad, optional-absent, optional-present, fmember-optional, fmember-value}
 use Rattle.reader.proofs.StructureSteps.{fmembers-start, fmembers-turn, fmembers-ended, fmembers-short, fmembers-refused, fmembers-quick, fmembers-next, fmembers-end}
 use Rattle.reader.proofs.SeveralSteps.{several-start, several-end, flag-known, nested-structure, opened-structures, fmember-structure, found-structure}
@@ -10,9 +10,9 @@ use Rattle.reader.proofs.LookedSteps.{looked-start}
 use Rattle.reader.proofs.UnionSteps.{selected-absent, selected-unfit, selected-none, selected-looked, selected-plain, union-empty, funion-short, funion-refused, funion-read, munion-short, munion-refused, munion-read}
 use Rattle.reader.proofs.NestedSteps.{body-enum, body-munion, body-short, body-funion, nested-unfit, nested-deep, nested-full, nested-read, nested-short, nested-refused}
 
-pub ruleset opened-laws = (opened-structures, complex-start, complex-turn, complex-short, complex-refused, complex-end)
+pub ruleset opened-laws = (opened-structures, opened-start, opened-turn, opened-short, opened-refused, opened-end)
 
-pub ruleset elements-laws = (elements-unsupported, elements-full, elements-complex, elements-block, elements-list, full-fits, row-next)
+pub ruleset elements-laws = (elements-unsupported, elements-full, elements-opened, elements-block, elements-list, full-fits, row-next)
 
 pub ruleset listed-laws = (list-short, list-got)
 

@@ -33,8 +33,8 @@ use Rattle.table.specs.declared.out.Out.{Out}
 use Rattle.table.specs.declared.out.Out.the-variants.{Read, Short, Refused}
 use Rattle.table.specs.Rows.{row, room, noRoom, putRow}
 use Rattle.table.specs.Outcome.{Outcome, read, short, refused, roomFor, prepend, closed, andThen, Done}
-use Rattle.table.proofs.Filling.{filled-none, filled-below, filled-row, full-fits, room-used}
-use Rattle.table.proofs.Outcomes.{is-read, is-short, is-refused, is-same, no-room, some-room, was-read, was-short, was-refused, then-read, then-short, then-refused, Sofar, sofar-start, sofar-more, sofar-read, sofar-short, sofar-refused}
+use Rattle.table.proofs.Filling.{filled-none}
+use Rattle.table.proofs.Outcomes.{is-short, is-same, Sofar, sofar-start, sofar-read, turn-read, turn-short, turn-refused, row-full, row-read, row-short, row-refused}
 use Rattle.reader.specs.Value.{Nest, isSequence, primitiveElement, openedFrom, valueOf}
 use Rattle.reader.specs.Member.{byLength, foundBy, foundOf, fmemberBy, fmemberOf}
 use Rattle.reader.specs.Structure.{fmembersOf, mmembersOf, mstructBy}
@@ -61,17 +61,17 @@ module _ (types : List BookType) (s : List ℕ) (set : Settings) (nest : Nest) (
 
   module _ (whole : Outcome) (n : ℕ) (a u : List ℕ) (id i : ℕ) (c : Cursor) (m : ℕ) (inv : SeveralSofar whole n a u id i c m) where
     module _ (l : i < count) (v : List ℕ) (r : Out) (h : Done (structureOf types s set nest mutable t ty id c (room u m)) m u v r) where
+      abbrev those-after : Cursor → ℕ → Outcome
+      those-after d k = severalOf types s set nest mutable t ty (i + 1) (count - (i + 1)) (i + 1) d k
+
       pub several-turn : (d : Cursor) (k : ℕ) → r ≡ Read d k → SeveralSofar whole n a v (i + 1) (i + 1) d k
-      several-turn d k q =
-          let w = was-read h q in
-          let z : room u m - length (w .new) ≡ room v k = room-used u v m (length (w .new)) (w .filled .long) ∙ ap (room v) (sym (w .count)) in
-          sofar-more inv (more id i c (room u m) l ∙ then-read _ (w .is) ∙ ap (λ (x : ℕ). prepend (w .new) (severalOf types s set nest mutable t ty (i + 1) (count - (i + 1)) (i + 1) d x)) z) (w .count) (w .filled)
+      several-turn = turn-read those-after inv (more id i c (room u m) l) h
 
       pub several-short : (x : Shortage) → r ≡ Short x → Done whole n a v (Short x)
-      several-short x q = let w = was-short h q in sofar-short inv (more id i c (room u m) l ∙ then-short _ (w .is)) (w .filled)
+      several-short = turn-short those-after inv (more id i c (room u m) l) h
 
       pub several-refused : (k : Refusal) → r ≡ Refused k → Done whole n a v (Refused k)
-      several-refused k q = let w = was-refused h q in sofar-refused inv (more id i c (room u m) l ∙ then-refused _ (w .is)) (w .filled)
+      several-refused = turn-refused those-after inv (more id i c (room u m) l) h
 
     pub several-end : count ≤ i → Done whole n a u (Read c m)
     several-end h = sofar-read inv (none id i c (room u m) h) (filled-none u m)
@@ -81,30 +81,25 @@ module _ (types : List BookType) (s : List ℕ) (set : Settings) (nest : Nest) (
   abbrev one : Outcome
   one = structureOf types s set nest mutable t ty id c (room u m)
 
-  pub one-full : f ≡ true → Done one m u u (Refused NoRoom)
+  abbrev beneath : ℕ → Outcome
+  beneath k = structureBody types s set nest mutable t c k
+
+  is-one : one ≡ roomFor (room u m) (closed 22 id ty (beneath (room u m - 1)))
   unfolding structureOf
-  one-full e = is-refused (no-room u m _ f full e) (filled-none u m)
+  is-one = refl
+
+  pub one-full : f ≡ true → Done one m u u (Refused NoRoom)
+  one-full = row-full 22 id ty beneath u m f full is-one
 
   module _ (fits : f ≡ false) (v : List ℕ) (r : Out) (h : Done (structureBody types s set nest mutable t c (room u (m + 1))) (m + 1) u v r) where
-    is-closed : one ≡ closed 22 id ty (structureBody types s set nest mutable t c (room u (m + 1)))
-    unfolding structureOf
-    is-closed = some-room u m _ f full fits ∙ ap (λ (x : ℕ). closed 22 id ty (structureBody types s set nest mutable t c x)) (room-used u u m 1 refl)
-
     pub one-read : (e : Cursor) (k : ℕ) (w : List ℕ) → r ≡ Read e k → w ≡ putRow v m (row 22 id ty (k - m - 1)) → Done one m u w (Read e k)
-    unfolding closed
-    one-read e k w q p =
-        let x = was-read h q in
-        let l : k - m - 1 ≡ length (x .new) = omega (arith, x .count) in
-        is-read {rs = row 22 id ty (length (x .new)) ∷ x .new} (is-closed ∙ ap (closed 22 id ty) (x .is)) (omega (arith, x .count))
-        (rw (p, l) (filled-row (row 22 id ty (length (x .new))) (full-fits u m f full fits) (x .filled)))
+    one-read = row-read 22 id ty beneath u m f full is-one fits v r h
 
     pub one-short : (x : Shortage) → r ≡ Short x → Done one m u v (Short x)
-    unfolding closed
-    one-short x q = let w = was-short h q in is-short (is-closed ∙ ap (closed 22 id ty) (w .is)) (filled-below (w .filled))
+    one-short = row-short 22 id ty beneath u m f full is-one fits v r h
 
     pub one-refused : (x : Refusal) → r ≡ Refused x → Done one m u v (Refused x)
-    unfolding closed
-    one-refused x q = let w = was-refused h q in is-refused (is-closed ∙ ap (closed 22 id ty) (w .is)) (filled-below (w .filled))
+    one-refused = row-refused 22 id ty beneath u m f full is-one fits v r h
 
 -- ---- what stands beneath the row
 module _ (types : List BookType) (s : List ℕ) (set : Settings) (nest : Nest) (t : BookType) (c : Cursor) (u : List ℕ) (n : ℕ) where

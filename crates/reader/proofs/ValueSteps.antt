@@ -18,7 +18,7 @@ use Rattle.table.specs.declared.out.Out.the-variants.{Read, Short, Refused}
 use Rattle.table.specs.Rows.{row, room, noRoom, putRow, Filled}
 use Rattle.table.specs.Outcome.{Outcome, read, roomFor, prepend, andThen, Done}
 use Rattle.table.proofs.Filling.{filled-none, filled-one, full-fits, room-used}
-use Rattle.table.proofs.Outcomes.{is-read, is-short, is-refused, is-same, is-after, no-room, some-room, was-read, was-short, was-refused, then-read, then-short, then-refused, Sofar, sofar-start, sofar-more, sofar-read, sofar-short, sofar-refused}
+use Rattle.table.proofs.Outcomes.{is-read, is-short, is-refused, is-same, is-after, no-room, some-room, was-read, was-short, was-refused, then-read, then-short, then-refused, Sofar, sofar-start, sofar-read, turn-read, turn-short, turn-refused}
 use Rattle.wire.specs.declared.number.Number.{Number}
 use Rattle.wire.specs.declared.number.Number.the-variants as number
 use Rattle.wire.proofs.Numbers.{after-got, after-none}
@@ -41,28 +41,28 @@ module _ (types : List BookType) (s : List ℕ) (set : Settings) (nest : Nest) (
   unfolding openedFrom
   none i c k h = let e : count - i ≡ 0 = omega arith in rw e
 
-  abbrev pub ComplexSofar : Outcome → ℕ → List ℕ → List ℕ → ℕ → Cursor → ℕ → Type 0
-  ComplexSofar whole n t u i c m = Sofar whole (openedFrom types s set nest ty (count - i) i c (room u m)) n t u m
+  abbrev pub OpenedSofar : Outcome → ℕ → List ℕ → List ℕ → ℕ → Cursor → ℕ → Type 0
+  OpenedSofar whole n t u i c m = Sofar whole (openedFrom types s set nest ty (count - i) i c (room u m)) n t u m
 
-  pub complex-start : (c : Cursor) (t : List ℕ) (n : ℕ) → ComplexSofar (openedFrom types s set nest ty count 0 c (room t n)) n t t 0 c n
-  complex-start c t n = sofar-start (rw sub-zero)
+  pub opened-start : (c : Cursor) (t : List ℕ) (n : ℕ) → OpenedSofar (openedFrom types s set nest ty count 0 c (room t n)) n t t 0 c n
+  opened-start c t n = sofar-start (rw sub-zero)
 
-  module _ (whole : Outcome) (n : ℕ) (t u : List ℕ) (i : ℕ) (c : Cursor) (m : ℕ) (inv : ComplexSofar whole n t u i c m) where
+  module _ (whole : Outcome) (n : ℕ) (t u : List ℕ) (i : ℕ) (c : Cursor) (m : ℕ) (inv : OpenedSofar whole n t u i c m) where
     module _ (l : i < count) (v : List ℕ) (r : Out) (h : Done (nest ty i c (room u m)) m u v r) where
-      pub complex-turn : (d : Cursor) (k : ℕ) → r ≡ Read d k → ComplexSofar whole n t v (i + 1) d k
-      complex-turn d k q =
-          let w = was-read h q in
-          let z : room u m - length (w .new) ≡ room v k = room-used u v m (length (w .new)) (w .filled .long) ∙ ap (room v) (sym (w .count)) in
-          sofar-more inv (more i c (room u m) l ∙ then-read _ (w .is) ∙ ap (λ (x : ℕ). prepend (w .new) (openedFrom types s set nest ty (count - (i + 1)) (i + 1) d x)) z) (w .count) (w .filled)
+      abbrev those-after : Cursor → ℕ → Outcome
+      those-after d k = openedFrom types s set nest ty (count - (i + 1)) (i + 1) d k
 
-      pub complex-short : (x : Shortage) → r ≡ Short x → Done whole n t v (Short x)
-      complex-short x q = let w = was-short h q in sofar-short inv (more i c (room u m) l ∙ then-short _ (w .is)) (w .filled)
+      pub opened-turn : (d : Cursor) (k : ℕ) → r ≡ Read d k → OpenedSofar whole n t v (i + 1) d k
+      opened-turn = turn-read those-after inv (more i c (room u m) l) h
 
-      pub complex-refused : (k : Refusal) → r ≡ Refused k → Done whole n t v (Refused k)
-      complex-refused k q = let w = was-refused h q in sofar-refused inv (more i c (room u m) l ∙ then-refused _ (w .is)) (w .filled)
+      pub opened-short : (x : Shortage) → r ≡ Short x → Done whole n t v (Short x)
+      opened-short = turn-short those-after inv (more i c (room u m) l) h
 
-    pub complex-end : count ≤ i → Done whole n t u (Read c m)
-    complex-end h = sofar-read inv (none i c (room u m) h) (filled-none u m)
+      pub opened-refused : (k : Refusal) → r ≡ Refused k → Done whole n t v (Refused k)
+      opened-refused = turn-refused those-after inv (more i c (room u m) l) h
+
+    pub opened-end : count ≤ i → Done whole n t u (Read c m)
+    opened-end h = sofar-read inv (none i c (room u m) h) (filled-none u m)
 
 -- by a type's kind: the type with a number stands at a place of the book
 module _ (b index s : List ℕ) (set : Settings) (nest : Nest) (ty id : ℕ) (c : Cursor) (t : List ℕ) (n p k : ℕ) (at : PlaceOf b index ty p) (kind : k ≡ typeAt b p .kind) where
@@ -90,9 +90,9 @@ module _ (b index s : List ℕ) (set : Settings) (nest : Nest) (ty id : ℕ) (c 
       pub elements-full : y ≡ true → (z : Bool) → z ≡ noRoom t n → z ≡ true → Done elements n t t (Refused NoRoom)
       elements-full h z i j = is-refused (opened-list h ∙ no-room t n _ z i j) (filled-none t n)
 
-      pub elements-complex : y ≡ true → (z : Bool) → z ≡ noRoom t n → z ≡ false → (u : List ℕ) → u ≡ putRow t n (row 25 id k count) → (v : List ℕ) (r : Out)
+      pub elements-opened : y ≡ true → (z : Bool) → z ≡ noRoom t n → z ≡ false → (u : List ℕ) → u ≡ putRow t n (row 25 id k count) → (v : List ℕ) (r : Out)
           → Done (openedFrom (typesBy b index) s set nest ty count 0 c (room u (n + 1))) (n + 1) u v r → Done elements n t v r
-      elements-complex h z i j u q v r d =
+      elements-opened h z i j u q v r d =
           let w : Filled t u n (row 25 id k count ∷ []) = rw q (filled-one t n (row 25 id k count) (full-fits t n z i j)) in
           is-same (opened-list h ∙ some-room t n _ z i j ∙ ap (λ (m : ℕ). prepend (row 25 id k count ∷ []) (openedFrom (typesBy b index) s set nest ty count 0 c m)) (room-used t u n 1 (w .long))) (is-after w d)
 

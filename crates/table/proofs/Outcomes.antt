@@ -1,6 +1,6 @@
 -- Laws of outcomes: what an answer tells of the outcome, what makes an answer right, and a run of values so far. Assumes nothing.
 use mathlib.Core.Path.{_≡_, refl, sym, ap, _∙_}
-use mathlib.Core.List.{List, [], _++_, append-nil, append-assoc}
+use mathlib.Core.List.{List, [], _∷_, _++_, append-nil, append-assoc}
 use Prim.Native.Nat.{ℕ, _+_, _-_, _≤_}
 use native.Mathlib.Nat.{add-zero}
 use native.Mathlib.Omega.{arith}
@@ -13,9 +13,9 @@ use Rattle.table.specs.declared.out.Refusal.{Refusal}
 use Rattle.table.specs.declared.out.Refusal.the-variants.{NoRoom}
 use Rattle.table.specs.declared.out.Out.{Out}
 use Rattle.table.specs.declared.out.Out.the-variants.{Read, Short, Refused}
-use Rattle.table.specs.Rows.{room, noRoom, Filled}
-use Rattle.table.specs.Outcome.{Outcome, read, short, refused, roomFor, prepend, andThen, orEndIf, answer, rowsOf, Done}
-use Rattle.table.proofs.Filling.{filled-none, filled-then, filled-kept, full-none, full-more}
+use Rattle.table.specs.Rows.{row, room, noRoom, putRow, Filled}
+use Rattle.table.specs.Outcome.{Outcome, read, short, refused, roomFor, prepend, closed, andThen, orEndIf, answer, rowsOf, Done}
+use Rattle.table.proofs.Filling.{filled-none, filled-then, filled-kept, filled-below, filled-row, full-none, full-more, full-fits, room-used}
 
 -- ---- what makes an answer right
 
@@ -164,6 +164,45 @@ unfolding prepend
 sofar-refused {n = n} {m} {b = b} {c} s e f =
     is-refused (s .same ∙ ap (prepend (s .new)) e)
     (filled-kept (filled-then (s .filled) (rw (s .count) at f)))
+
+-- a turn of a loop: the next part was done, and the rest goes on from there
+module _ {whole rest o : Outcome} {n m : ℕ} {a u v : List ℕ} {r : Out} (next : Cursor → ℕ → Outcome) (inv : Sofar whole rest n a u m) (more : rest ≡ andThen o (λ d used. next d (room u m - used))) (h : Done o m u v r) where
+  pub turn-read : (d : Cursor) (k : ℕ) → r ≡ Read d k → Sofar whole (next d (room v k)) n a v k
+  turn-read d k q =
+      let w = was-read h q in
+      let z : room u m - length (w .new) ≡ room v k = room-used u v m (length (w .new)) (w .filled .long) ∙ ap (room v) (sym (w .count)) in
+      sofar-more inv (more ∙ then-read _ (w .is) ∙ ap (λ (x : ℕ). prepend (w .new) (next d x)) z) (w .count) (w .filled)
+
+  pub turn-short : (x : Shortage) → r ≡ Short x → Done whole n a v (Short x)
+  turn-short x q = let w = was-short h q in sofar-short inv (more ∙ then-short _ (w .is)) (w .filled)
+
+  pub turn-refused : (k : Refusal) → r ≡ Refused k → Done whole n a v (Refused k)
+  turn-refused k q = let w = was-refused h q in sofar-refused inv (more ∙ then-refused _ (w .is)) (w .filled)
+
+-- a row that is written last, when what stands beneath it is done
+module _ {whole : Outcome} (kind id ty : ℕ) (beneath : ℕ → Outcome) (u : List ℕ) (m : ℕ) (f : Bool) (full : f ≡ noRoom u m) (is : whole ≡ roomFor (room u m) (closed kind id ty (beneath (room u m - 1)))) where
+  pub row-full : f ≡ true → Done whole m u u (Refused NoRoom)
+  row-full e = is-refused (is ∙ no-room u m _ f full e) (filled-none u m)
+
+  module _ (fits : f ≡ false) (v : List ℕ) (r : Out) (h : Done (beneath (room u (m + 1))) (m + 1) u v r) where
+    is-closed : whole ≡ closed kind id ty (beneath (room u (m + 1)))
+    is-closed = is ∙ some-room u m _ f full fits ∙ ap (λ (x : ℕ). closed kind id ty (beneath x)) (room-used u u m 1 refl)
+
+    pub row-read : (e : Cursor) (k : ℕ) (w : List ℕ) → r ≡ Read e k → w ≡ putRow v m (row kind id ty (k - m - 1)) → Done whole m u w (Read e k)
+    unfolding closed
+    row-read e k w q p =
+        let x = was-read h q in
+        let l : k - m - 1 ≡ length (x .new) = omega (arith, x .count) in
+        is-read {rs = row kind id ty (length (x .new)) ∷ x .new} (is-closed ∙ ap (closed kind id ty) (x .is)) (omega (arith, x .count))
+        (rw (p, l) (filled-row (row kind id ty (length (x .new))) (full-fits u m f full fits) (x .filled)))
+
+    pub row-short : (x : Shortage) → r ≡ Short x → Done whole m u v (Short x)
+    unfolding closed
+    row-short x q = let w = was-short h q in is-short (is-closed ∙ ap (closed kind id ty) (w .is)) (filled-below (w .filled))
+
+    pub row-refused : (x : Refusal) → r ≡ Refused x → Done whole m u v (Refused x)
+    unfolding closed
+    row-refused x q = let w = was-refused h q in is-refused (is-closed ∙ ap (closed kind id ty) (w .is)) (filled-below (w .filled))
 
 -- rows that were written first
 pub is-after : {o : Outcome} {n : ℕ} {a b c : List ℕ} {rs : List Row} {r : Out} → Filled a b n rs → Done o (n + length rs) b c r → Done (prepend rs o) n a c r

@@ -3,7 +3,7 @@ use Prim.Native.Nat.{_-_}
 use Rattle.table.specs.Rows.{room}
 use Rattle.book.specs.Places.{typesBy}
 use Rattle.reader.specs.Cycle.{nest, openedIn}
-use Rattle.reader.proofs.ValueSteps.{ComplexSofar}
+use Rattle.reader.proofs.ValueSteps.{OpenedSofar}
 use mathlib.Core.Path.{sym, _∙_}
 use Rattle.reader.proofs.SeveralSteps.{opened-structures}
 use borrow.Author.Needs.{needs}
@@ -23,7 +23,7 @@ abbrev E : ℕ → lts.Claims
 E t = (place-reads.Asked, place-reads.Learnt, is-final-reads.Asked, is-final-reads.Learnt, fstruct-below t, fstruct.Post, is-mutable-structure-reads.Asked, is-mutable-structure-reads.Learnt, mstruct-below t, mstruct.Post, as-nested-below t, as-nested.Post)
 
 abbrev Inv-loop : lts.InvT-loop
-Inv-loop book index s set t₀ ty count n depth at i₀ d₀ m₀ t i d m = ComplexSofar (typesBy book index) s set (nest book index s set depth) ty count (openedIn book index s set depth ty count d₀ (room t₀ n)) n t₀ t i d m
+Inv-loop book index s set t₀ ty count n depth at i₀ d₀ m₀ t i d m = OpenedSofar (typesBy book index) s set (nest book index s set depth) ty count (openedIn book index s set depth ty count d₀ (room t₀ n)) n t₀ t i d m
 
 abbrev μ-loop : lts.MeasureT-loop
 μ-loop book index s set t₀ ty count n depth at i₀ d₀ m₀ t i d m = count - i
