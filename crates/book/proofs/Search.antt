@@ -18,7 +18,7 @@ use Rattle.book.specs.declared.labels.Found.{Found}
 use Rattle.book.specs.declared.labels.Found.the-variants.{At, Nothing}
 use Rattle.book.specs.Types.{Member, default}
 use Rattle.book.specs.Places.{memberAt, typeAt, listed, later, Started, After}
-use Rattle.book.specs.Labels.{isIn, orElse, when, firstWith, lastDefault, told}
+use Rattle.book.specs.Labels.{isIn, orElse, when, firstWhere, firstWith, lastDefault, told}
 use Rattle.book.proofs.Places.{run-more, run-none}
 
 -- a label among the labels of a member: what holds of all of them holds of those from i on
@@ -57,19 +57,32 @@ first-bits d ms o f e = e ∙ ap (λ (z : ℤ). firstWith z ms) (toZ-ofZ {w = w3
 pub first-start : (d : ℤ) (b : List ℕ) (at : ℕ) (ms : Run) → Started b at ms → firstWith d (listed b ms) ≡ firstWith d (typeAt b at .members)
 first-start d b at ms s = rw (s .is)
 
+module _ (f : Member → Bool) (b : List ℕ) (ms : Run) (whole : Option Member) (inv : firstWhere f (listed b ms) ≡ whole) where
+  pub where-found : (t : Bool) → 0 < ms .left → t ≡ f (memberAt b (ms .at)) → t ≡ true → told b (At (ms .at)) ≡ whole
+  unfolding firstWhere when orElse told
+  where-found t h e z = rw (run-more b ms h, ← e, z) at inv
+
+  pub where-turn : (t : Bool) (r : Run) → 0 < ms .left → t ≡ f (memberAt b (ms .at)) → t ≡ false → After b ms r → firstWhere f (listed b r) ≡ whole
+  unfolding firstWhere when orElse
+  where-turn t r h e z a = rw (a .is) (rw (run-more b ms h, ← e, z) at inv)
+
+  pub where-end : ms .left ≤ 0 → told b Nothing ≡ whole
+  unfolding firstWhere told
+  where-end h = rw (run-none b ms h) at inv
+
 module _ (d : ℤ) (b : List ℕ) (ms : Run) (whole : Option Member) (inv : firstWith d (listed b ms) ≡ whole) where
   pub first-found : (t : Bool) → 0 < ms .left → t ≡ isIn d (memberAt b (ms .at) .labels) → t ≡ true → told b (At (ms .at)) ≡ whole
-  unfolding firstWith when orElse told
-  first-found t h e z = rw (run-more b ms h, ← e, z) at inv
+  unfolding firstWith
+  first-found = where-found (λ m. isIn d (m .labels)) b ms whole inv
 
   pub first-turn : (t : Bool) (r : Run) → 0 < ms .left → t ≡ isIn d (memberAt b (ms .at) .labels) → t ≡ false → After b ms r
       → firstWith d (listed b r) ≡ whole
-  unfolding firstWith when orElse
-  first-turn t r h e z a = rw (a .is) (rw (run-more b ms h, ← e, z) at inv)
+  unfolding firstWith
+  first-turn = where-turn (λ m. isIn d (m .labels)) b ms whole inv
 
   pub first-end : ms .left ≤ 0 → told b Nothing ≡ whole
-  unfolding firstWith told
-  first-end h = rw (run-none b ms h) at inv
+  unfolding firstWith
+  first-end = where-end (λ m. isIn d (m .labels)) b ms whole inv
 
 pub ruleset first-laws = (first-start, first-found, first-turn, first-end)
 

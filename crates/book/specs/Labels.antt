@@ -24,10 +24,14 @@ unfoldable pub when : Bool → Member → Option Member
 when true m = some m
 when false m = none
 
+-- the first member that passes a test
+unfoldable pub firstWhere : (Member → Bool) → List Member → Option Member
+firstWhere f [] = none
+firstWhere f (m ∷ ms) = orElse (when (f m) m) (firstWhere f ms)
+
 -- "First member holding the label"
 unfoldable pub firstWith : ℤ → List Member → Option Member
-firstWith d [] = none
-firstWith d (m ∷ ms) = orElse (when (isIn d (m .labels)) m) (firstWith d ms)
+firstWith d ms = firstWhere (λ m. isIn d (m .labels)) ms
 
 -- "the LAST default"
 unfoldable pub lastDefault : List Member → Option Member

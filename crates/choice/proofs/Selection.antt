@@ -17,6 +17,7 @@ use Rattle.book.specs.Types.{BookType, Member, default}
 use Rattle.book.specs.Places.{memberAt, typeAt, typesBy, listed, Started, After, PlaceOf}
 use Rattle.book.specs.Labels.{orElse, when, firstWith, lastDefault, told}
 use Rattle.book.proofs.Places.{run-more, run-none}
+use Rattle.book.proofs.Search.{where-found, where-turn, where-end}
 use Rattle.choice.specs.Select.{firstDefault, firstOf, firstLabel, labelOf, defaultValue, byDefaultValue, selectedOf}
 
 -- the first literal with the default flag
@@ -25,16 +26,16 @@ default-start b at ms s = rw (s .is)
 
 module _ (b : List ℕ) (ms : Run) (whole : Option Member) (inv : firstDefault (listed b ms) ≡ whole) where
   pub default-found : (t : Bool) → 0 < ms .left → t ≡ default (memberAt b (ms .at)) → t ≡ true → told b (At (ms .at)) ≡ whole
-  unfolding firstDefault when orElse told
-  default-found t h e z = rw (run-more b ms h, ← e, z) at inv
+  unfolding firstDefault
+  default-found = where-found default b ms whole inv
 
   pub default-turn : (t : Bool) (r : Run) → 0 < ms .left → t ≡ default (memberAt b (ms .at)) → t ≡ false → After b ms r → firstDefault (listed b r) ≡ whole
-  unfolding firstDefault when orElse
-  default-turn t r h e z a = rw (a .is) (rw (run-more b ms h, ← e, z) at inv)
+  unfolding firstDefault
+  default-turn = where-turn default b ms whole inv
 
   pub default-end : ms .left ≤ 0 → told b Nothing ≡ whole
-  unfolding firstDefault told
-  default-end h = rw (run-none b ms h) at inv
+  unfolding firstDefault
+  default-end = where-end default b ms whole inv
 
 pub ruleset default-laws = (default-start, default-found, default-turn, default-end)
 

@@ -6,12 +6,11 @@ use lib.IntN.{ℤ, pos}
 use Rattle.ground.specs.Choice.{pick}
 use Rattle.book.specs.Types.{BookType, Member, default, typeNo}
 use Rattle.book.specs.Rules.{isEnum}
-use Rattle.book.specs.Labels.{orElse, when, firstWith, lastDefault}
+use Rattle.book.specs.Labels.{orElse, firstWhere, firstWith, lastDefault}
 
 -- the first literal with the default flag
 unfoldable pub firstDefault : List Member → Option Member
-firstDefault [] = none
-firstDefault (m ∷ ms) = orElse (when (default m) m) (firstDefault ms)
+firstDefault ms = firstWhere default ms
 
 -- "literal 0": the first listed
 unfoldable pub firstOf : List Member → Option Member

@@ -11,7 +11,7 @@ use borrow.Author.Tests.{not-true}
 use Rattle.ground.specs.Choice.{pick, every, among}
 use Rattle.ground.proofs.Tests.{apart}
 use Rattle.book.specs.Types.{BookType, Member, default, typeNo}
-use Rattle.book.specs.Labels.{isIn, orElse, when, firstWith, lastDefault}
+use Rattle.book.specs.Labels.{isIn, orElse, when, firstWhere, firstWith, lastDefault}
 use Rattle.book.proofs.Search.{or-none}
 use Rattle.table.specs.declared.rows.Row.{Row}
 use Rattle.table.specs.Rows.{row}
@@ -61,7 +61,7 @@ or-either P (some m) b x p q e = p x e
 or-either P none b x p q e = q x e
 
 with-in : (d : ℤ) (ms : List Member) (x : Member) → firstWith d ms ≡ some x → OneOf x ms
-unfolding firstWith
+unfolding firstWith firstWhere
 with-in d [] x e = absurd (let z : _≡_ {A = ℕ} 0 1 = cc in omega arith)
 with-in d (m ∷ ms) x e =
     or-either (λ y. OneOf y (m ∷ ms)) (when (isIn d (m .labels)) m) (firstWith d ms) x (λ y h. List·Memᴰ·head (when-is (isIn d (m .labels)) m y h)) (λ y h. List·Memᴰ·tail (with-in d ms y h)) e
@@ -74,7 +74,7 @@ default-in (m ∷ ms) x e =
 
 module _ (disc : Member) (others : List Member) (noDefault : default disc ≡ false) (noLabel : disc .labels ≡ []) where
   past-label : (d : ℤ) → firstWith d (disc ∷ others) ≡ firstWith d others
-  unfolding firstWith isIn when orElse
+  unfolding firstWith firstWhere isIn when orElse
   past-label d = rw noLabel
 
   past-default : lastDefault (disc ∷ others) ≡ lastDefault others
