@@ -1,7 +1,7 @@
 -- Laws of opening a value: what each return shows. Assumes nothing.
 use Prim.Native.Nat.{ℕ, zero, suc, _+_, _-_, _*_, _≤_}
 use mathlib.Core.Path.{_≡_, refl, sym, ap, _∙_}
-use mathlib.Core.Bool.{Bool, true, false}
+use mathlib.Core.Bool.{Bool, true, false, not}
 use mathlib.Core.List.{List, _∷_}
 use native.Mathlib.Omega.{arith}
 use lib.ListN.{length}
@@ -17,11 +17,8 @@ use Rattle.table.specs.Rows.{row, width, room, noRoom, putRow}
 use Rattle.table.specs.Outcome.{Outcome, refused, roomFor, closed, Done}
 use Rattle.table.proofs.Filling.{filled-none, filled-below, filled-row, full-fits, room-used}
 use Rattle.table.proofs.Outcomes.{is-read, is-short, is-refused, is-same, no-room, some-room, was-read, was-short, was-refused}
-use mathlib.Core.Bool.{not}
 use Rattle.wire.specs.declared.cursor.Place.{Place}
 use Rattle.wire.specs.declared.cursor.Place.the-variants as place
-use Rattle.wire.specs.declared.settings.Version.{Version}
-use Rattle.wire.specs.declared.settings.Version.the-variants.{Xcdr1, Xcdr2}
 use Rattle.wire.proofs.Moves.{after-at, after-short}
 use Rattle.kinds.specs.Kinds.{opens}
 use Rattle.book.specs.Types.{BookType, typeNo}
@@ -30,7 +27,6 @@ use Rattle.table.specs.declared.out.Refusal.the-variants.{InvalidType, TooDeep,
 use Rattle.values.specs.Header.{unheardDheader}
 use Rattle.values.specs.Scalar.{enumOf}
 use Rattle.reader.specs.Value.{Nest}
-use Rattle.reader.specs.Structure.{fmembersOf, mstructBy}
 use Rattle.reader.specs.Union.{membersBy}
 use Rattle.reader.specs.Nested.{isMutable, contentsAt, asFinal, asMutable, bodyBy, bodyOf, openedIf, tooDeepIf, nestedAt}
 
