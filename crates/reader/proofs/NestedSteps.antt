@@ -30,7 +30,7 @@ use Rattle.reader.specs.Value.{Nest}
 use Rattle.reader.specs.Union.{membersBy}
 use Rattle.reader.specs.Nested.{isMutable, contentsAt, asFinal, asMutable, bodyBy, bodyOf, openedIf, tooDeepIf, nestedAt}
 
--- what stands beneath a value's row
+-- what stands beneath the row of an enum or a union
 module _ (types : List BookType) (s : List ℕ) (set : Settings) (nest : Nest) (b : List ℕ) (at : ℕ) (c : Cursor) (t : List ℕ) (n k : ℕ) (kind : k ≡ typeAt b at .kind) where
   abbrev body : Outcome
   body = bodyOf types s set nest (typeAt b at) c (room t n)

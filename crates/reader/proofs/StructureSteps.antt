@@ -1,4 +1,4 @@
--- Laws of structures: the two runs of members, and their ends. Assumes nothing.
+-- Laws of the members of a Final or Appendable structure: in order, each in the quick way or as any other. Assumes nothing.
 use Prim.Native.Nat.{ℕ, _+_, _-_, _^_, _≤_, _<_}
 use mathlib.Core.Path.{_≡_, refl, sym, ap, _∙_}
 use mathlib.Core.Bool.{Bool, true, false}
