@@ -126,7 +126,7 @@ pub fn element_count(book: &[u8], index: &[u32], at: usize, length: u64) -> u64
     length / (size as u64)
 }
 
-// Whether too few bytes for the member at p end the structure at `at` as read.
+// Whether too few bytes for the member at p end the structure whose type is at `at` as read.
 pub fn absorbs(book: &[u8], at: usize, p: usize) -> bool
     ensures { λ r. ⌜ r ≡ absorbs (typeAt (now (book .entry)) at) (memberAt (now (book .entry)) p) ⌝ }
 {
