@@ -133,7 +133,7 @@ pub fn absorbs(book: &[u8], at: usize, p: usize) -> bool
     (extensibility(book, at) == 1) | (book::member::construct(book, p) == 0)
 }
 
-// Where the contents of a Final or Appendable value begin.
+// Serialization rules 29 and 30: where the contents of a Final or Appendable value begin.
 pub fn contents_at(book: &[u8], s: &[u8], set: Settings, at: usize, c: Cursor) -> Place
     ensures { λ r. ⌜ r ≡ contentsAt (now (s .entry)) set (typeAt (now (book .entry)) at) c ⌝ }
 {
