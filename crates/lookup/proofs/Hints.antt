@@ -1,5 +1,5 @@
--- Laws of the hint: what it is to be asked there, and what it says of the structure's end. Assumes nothing.
-use Prim.Native.Nat.{ℕ, suc, _+_, _-_, _%_, _≤_, _<_, _^_}
+-- Laws of the hint: when it is true, what the header there tells, and that the end marker may be looked for from there. Assumes nothing.
+use Prim.Native.Nat.{ℕ, suc, _+_, _-_, _%_, _≤_, _<_}
 use mathlib.Core.Path.{_≡_, sym, ap, _∙_}
 use mathlib.Core.List.{List}
 use lib.ListN.{length}
@@ -53,6 +53,6 @@ sought-at s set id h origin r from near left is = record { small = λ k. ahead-s
     further back led k =
         record { place = ahead-place s set id _ (cursorAt (h .next) origin) r is (more k); leads = λ f. ahead-next s set id (h .least) _ back (cursorAt (h .next) origin) r (led .leads there) (omega arith) is (more k) f }
 
--- the end marker is as far from the hint
+-- a search for the end marker from the start is one from where the hint says
 pub led-sentinel : (s : List ℕ) (set : Settings) (back : Cursor) (origin : ℕ) (h : Hint) → set .version ≡ Xcdr1 → Led s set back origin h → h .next + 4 ≤ length s → h .least ≤ 0x3F02 → seekToSentinel s set back ≡ seekToSentinel s set (cursorAt (h .next) origin)
 led-sentinel s set back origin h v led there l = lead-sentinel s set back (cursorAt (h .next) origin) (h .least) v (led .leads there) l

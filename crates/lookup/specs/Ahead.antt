@@ -32,7 +32,7 @@ unfoldable pub askedFor : Version → ℕ → ℕ
 askedFor Xcdr1 id = id % 2 ^ 16
 askedFor Xcdr2 id = id
 
--- a search from the one place is a search from the other, for every id from `least` on
+-- a search from the one place is a search from the other, for every id that headers are asked for as `least` or more
 unfoldable pub Leads : List ℕ → Settings → Cursor → Cursor → ℕ → Type 0
 Leads s set from to least = (id : ℕ) → least ≤ askedFor (set .version) id → searched s set (set .version) id from ≡ searched s set (set .version) id to
 
@@ -59,7 +59,8 @@ pub record HeaderId (version : Version) (id : ℕ) : Type 0 where
   pub small : id < 2 ^ 28
   pub uncut : askedFor version id ≡ id
 
--- where the value's place is not 0, the search from here finds the value there, and it is not empty
+-- where the value's place is 0, nothing is said; else the search from here finds the value there, it is not empty, the id is one that a header
+-- has, and the next header's place is told
 unfoldable pub AheadAt : List ℕ → Settings → ℕ → Cursor → ℕ → ℕ → ℕ → Type 0
 AheadAt s set id at n next zero = Unit {0}
 AheadAt s set id at n next (suc v) =
@@ -84,7 +85,7 @@ pub record LongHead (s : List ℕ) (set : Settings) (emheader pos origin : ℕ) 
 unfoldable pub PassedTo : List ℕ → Cursor → ℕ → ℕ → Type 0
 PassedTo s c n q = HeadOrEnd s q (c .origin) × (q + 4 ≤ length s → (set : Settings) → pastValue s set c n ≡ On (cursorAt q (c .origin)))
 
--- a search from the structure's start is one from where the hint says, if a header stands there
+-- a hint is true: for the ids from its `least` on a search from the structure's start is one from where it says, if a header stands there
 pub record Led (s : List ℕ) (set : Settings) (back : Cursor) (origin : ℕ) (h : Hint) : Type 0 where
   pub place : HeadOrEnd s (h .next) origin
   pub leads : h .next + 4 ≤ length s → Leads s set back (cursorAt (h .next) origin) (h .least)
@@ -96,7 +97,8 @@ hintFrom next = record { next = next; least = 0 }
 abbrev pub ledOn : Ahead → ℕ → Hint
 ledOn a id = record { next = a .next; least = id + 1 }
 
--- what it tells to be asked where a hint says: 0 tells nothing, else the member is found there, and the hint after it is true
+-- what the header where a hint says tells: a value's place of 0 tells nothing; else the id has 28 bits at most, and where the hint is true, the
+-- lookup finds the member there, and the hint after it is true too
 pub record Sought (s : List ℕ) (set : Settings) (id : ℕ) (h : Hint) (origin : ℕ) (r : Ahead) : Type 0 where
   pub small : 0 < r .value → id < 2 ^ 28
   pub found : (back : Cursor) → alignTo s (set .version) back 4 ≡ place.At back → Led s set back origin h → 0 < r .value → locate s set id back ≡ located.Found (r .length) (valueAt (set .version) (r .value) origin) back

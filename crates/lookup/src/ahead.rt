@@ -11,7 +11,7 @@ use wire::settings::Settings;
 use wire::settings::Version;
 
 pub struct Ahead {
-    // Where the value starts; 0: the header there is not the wanted one, or something is missing.
+    // Where the value starts; 0: the header there is not the wanted one, its value is empty, or something is missing.
     pub value: usize,
     pub length: u64,
     // Where the next header stands; near the end of the data, where none can, any place there.
@@ -75,7 +75,7 @@ fn unit(lc: u64) -> u64
     }
 }
 
-// A header that has its length in NEXTINT. LC 5 gives NEXTINT back to the value.
+// A header that has its length in NEXTINT. LC 5 gives NEXTINT back to the value. An empty value is left to the search.
 fn long(s: &[u8], set: Settings, emheader: u64, pos: usize, origin: usize) -> Ahead
     requires { ⌜ LongHead (now s) set emheader pos origin ⌝ }
     ensures { λ r. ⌜ AheadIs (now (s .entry)) set (idOf emheader) (cursorAt pos origin) r ⌝ }

@@ -1,7 +1,7 @@
 -- Laws of opening a value: what each return shows. Assumes nothing.
 use Prim.Native.Nat.{ℕ, zero, suc, _+_, _-_, _*_, _≤_}
 use mathlib.Core.Path.{_≡_, refl, sym, ap, _∙_}
-use mathlib.Core.Bool.{Bool, true, false}
+use mathlib.Core.Bool.{Bool, true, false, not}
 use mathlib.Core.List.{List}
 use native.Mathlib.Omega.{arith}
 use lib.ListN.{length}
@@ -17,11 +17,8 @@ use Rattle.table.specs.Rows.{row, width, room, noRoom, putRow}
 use Rattle.table.specs.Outcome.{Outcome, refused, roomFor, closed, Done}
 use Rattle.table.proofs.Filling.{filled-none, full-fits}
 use Rattle.table.proofs.Outcomes.{is-short, is-refused, is-same, row-full, row-read, row-short, row-refused}
-use mathlib.Core.Bool.{not}
 use Rattle.wire.specs.declared.cursor.Place.{Place}
 use Rattle.wire.specs.declared.cursor.Place.the-variants as place
-use Rattle.wire.specs.declared.settings.Version.{Version}
-use Rattle.wire.specs.declared.settings.Version.the-variants.{Xcdr1, Xcdr2}
 use Rattle.wire.proofs.Moves.{after-at, after-short}
 use Rattle.kinds.specs.Kinds.{opens}
 use Rattle.book.specs.Types.{BookType, typeNo}
@@ -30,11 +27,10 @@ use Rattle.table.specs.declared.out.Refusal.the-variants.{InvalidType, TooDeep,
 use Rattle.values.specs.Header.{unheardDheader}
 use Rattle.values.specs.Scalar.{enumOf}
 use Rattle.reader.specs.Value.{Nest}
-use Rattle.reader.specs.Structure.{fmembersOf, mstructBy}
 use Rattle.reader.specs.Union.{membersBy}
 use Rattle.reader.specs.Nested.{isMutable, contentsAt, asFinal, asMutable, bodyBy, bodyOf, openedIf, tooDeepIf, nestedAt}
 
--- what stands beneath a value's row
+-- what stands beneath the row of an enum or a union
 module _ (types : List BookType) (s : List ℕ) (set : Settings) (nest : Nest) (b : List ℕ) (at : ℕ) (c : Cursor) (t : List ℕ) (n k : ℕ) (kind : k ≡ typeAt b at .kind) where
   abbrev body : Outcome
   body = bodyOf types s set nest (typeAt b at) c (room t n)

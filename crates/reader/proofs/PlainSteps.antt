@@ -1,4 +1,5 @@
--- Laws of the quick way for a member: a number that is no optional member is what `scalarOf` says. Assumes nothing.
+-- Laws of the quick way for a member: of a kind that is taken, the value of a member that is not optional, and of one that was found, is what
+-- `scalarOf` says; and of the header that is asked first. Assumes nothing.
 use Prim.Native.Nat.{ℕ, _+_, _^_, _≤_, _<_}
 use mathlib.Core.Path.{_≡_, refl, sym, ap, _∙_}
 use mathlib.Core.Bool.{Bool, true, false, not}

@@ -1,5 +1,5 @@
 -- Laws of structures with their rows, one after the other, and of the values that they are. Assumes nothing.
-use Prim.Native.Nat.{ℕ, zero, suc, _+_, _-_, _*_, _≤_, _<_, _^_}
+use Prim.Native.Nat.{ℕ, zero, suc, _+_, _-_, _≤_, _<_}
 use mathlib.Core.Path.{_≡_, refl, sym, ap, _∙_}
 use mathlib.Core.Bool.{Bool, true, false, not}
 use mathlib.Core.List.{List, [], _∷_, append-nil}
@@ -22,7 +22,7 @@ use Rattle.wire.specs.declared.settings.Version.the-variants.{Xcdr1, Xcdr2}
 use Rattle.wire.specs.Place.{afterMove}
 use Rattle.wire.proofs.Moves.{after-at, after-short}
 use Rattle.kinds.specs.Kinds.{unsupportedMember, opens}
-use Rattle.book.specs.Types.{BookType, Member, optional, typeNo}
+use Rattle.book.specs.Types.{BookType, optional, typeNo}
 use Rattle.book.specs.Places.{memberAt, typeAt, typesBy, PlaceOf}
 use Rattle.lookup.specs.declared.dheader.Ending.{Ending}
 use Rattle.lookup.specs.declared.dheader.Ending.the-variants as ending
@@ -35,9 +35,9 @@ use Rattle.table.specs.Rows.{row, room, noRoom, putRow}
 use Rattle.table.specs.Outcome.{Outcome, read, short, refused, roomFor, prepend, closed, andThen, Done}
 use Rattle.table.proofs.Filling.{filled-none}
 use Rattle.table.proofs.Outcomes.{is-short, is-same, Sofar, sofar-start, sofar-read, turn-read, turn-short, turn-refused, row-full, row-read, row-short, row-refused}
-use Rattle.reader.specs.Value.{Nest, isSequence, primitiveElement, openedFrom, valueOf}
+use Rattle.reader.specs.Value.{Nest, isSequence, openedFrom, valueOf}
 use Rattle.reader.specs.Member.{byLength, foundBy, foundOf, fmemberBy, fmemberOf}
-use Rattle.reader.specs.Structure.{fmembersOf, mmembersOf, mstructBy}
+use Rattle.reader.specs.Structure.{fmembersOf, mmembersOf}
 use Rattle.reader.proofs.BegunSteps.{begun-short, begun-at}
 use Rattle.reader.specs.Nested.{isMutable, contentsAt, asFinal, asMutable, bodyBy, bodyOf, openedIf, nestedAt}
 use Rattle.reader.specs.Several.{isStructure, begunBy, alignedFor, endedBy, structureBody, structureOf, severalOf}

@@ -1,8 +1,8 @@
--- Laws of structures: the two runs of members, and their ends. Assumes nothing.
+-- Laws of the members of a Final or Appendable structure: in order, each in the quick way or as any other. Assumes nothing.
 use Prim.Native.Nat.{ℕ, _+_, _-_, _^_, _≤_, _<_}
 use mathlib.Core.Path.{_≡_, refl, sym, ap, _∙_}
 use mathlib.Core.Bool.{Bool, true, false}
-use mathlib.Core.List.{List, [], _++_, append-nil}
+use mathlib.Core.List.{List}
 use mir.Syntax.{w64}
 use mir.Val.{Fits}
 use lib.ListN.{length}
@@ -13,28 +13,20 @@ use Rattle.table.specs.declared.out.Refusal.{Refusal}
 use Rattle.table.specs.declared.out.Out.{Out}
 use Rattle.table.specs.declared.out.Out.the-variants.{Read, Short, Refused}
 use Rattle.table.specs.Rows.{room}
-use Rattle.table.specs.Outcome.{Outcome, read, prepend, andThen, orEndIf, Done}
-use Rattle.table.proofs.Filling.{filled-none, filled-kept, room-used}
-use Rattle.table.proofs.Outcomes.{is-read, is-short, is-refused, was-read, was-short, was-refused, then-read, then-short, then-refused, end-read, end-ended, end-short, end-refused, Sofar, sofar-start, sofar-more, sofar-read, sofar-short, sofar-refused}
-use Rattle.wire.specs.declared.cursor.Place.{Place}
-use Rattle.wire.specs.declared.cursor.Place.the-variants as place
-use Rattle.wire.specs.declared.settings.Version.the-variants.{Xcdr1, Xcdr2}
+use Rattle.table.specs.Outcome.{Outcome, prepend, orEndIf, Done}
+use Rattle.table.proofs.Filling.{filled-none, room-used}
+use Rattle.table.proofs.Outcomes.{was-read, was-short, was-refused, end-read, end-ended, end-short, end-refused, Sofar, sofar-start, sofar-more, sofar-read, sofar-short, sofar-refused}
 use Rattle.wire.specs.Place.{cursorAt}
-use Rattle.wire.proofs.Moves.{after-at, after-short}
 use Rattle.book.specs.declared.member.Run.{Run}
 use Rattle.book.specs.Types.{BookType, Member}
 use Rattle.book.specs.Places.{memberAt, typeAt, listed, later, Started, After}
 use Rattle.book.proofs.Places.{run-more, run-none}
-use Rattle.lookup.specs.Xcdr1.{seekToSentinel}
-use Rattle.lookup.specs.Dheader.{endingAt}
-use Rattle.lookup.specs.declared.dheader.Ending.{Ending}
-use Rattle.lookup.specs.declared.dheader.Ending.the-variants as ending
 use Rattle.values.specs.Quick.{Quickly}
 use Rattle.values.proofs.Quickly.{quick-done, quick-none}
 use Rattle.reader.specs.Value.{Nest}
-use Rattle.reader.specs.Member.{fmemberOf, mmemberOf}
+use Rattle.reader.specs.Member.{fmemberOf}
 use Rattle.reader.proofs.PlainSteps.{plain-next}
-use Rattle.reader.specs.Structure.{absorbs, fmembersOf, mmembersOf, atSentinel, onEnding, mstructBy}
+use Rattle.reader.specs.Structure.{absorbs, fmembersOf}
 
 module _ (types : List BookType) (s : List ℕ) (set : Settings) (nest : Nest) (b : List ℕ) (at : ℕ) where
   abbrev type : BookType

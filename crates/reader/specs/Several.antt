@@ -19,7 +19,7 @@ use Rattle.reader.specs.Value.{Nest}
 use Rattle.reader.specs.Structure.{fmembersOf, mstructBy, atSentinel}
 use Rattle.reader.specs.Nested.{isMutable, contentsAt}
 
--- a structure, Mutable or not
+-- a structure: a Mutable one, or one that is Final or Appendable
 unfoldable pub isStructure : Bool → BookType → Bool
 isStructure true t = both (eqb (t .kind) 22) (isMutable t)
 isStructure false t = both (eqb (t .kind) 22) (not (isMutable t))

@@ -21,7 +21,8 @@ use wire::cursor::Cursor;
 use wire::settings::Settings;
 
 // Takes the member at p where it is such, and tells the position after it; or 0, and nothing is done. It opens nothing, so how values
-// are opened makes no difference.
+// are opened makes no difference. That a member's 9 bytes before its labels are there, and a type's 10 up to its bound, is asked once for the
+// compiler, which then leaves it out for each of them.
 pub fn take(
     book: &[u8],
     index: &[u32],

@@ -1,4 +1,4 @@
-// What the cycle asks of a type or a member in the book.
+// What the cycle asks of a type or a member in the book, and where a value's contents begin and a Mutable structure ends.
 ghost use mathlib.Core.Path.{_≡_};
 ghost use Rattle.book.specs.Places.{memberAt, typeAt, typesBy};
 ghost use Rattle.reader.specs.Value.{isSequence, primitiveElement, readAs};
@@ -126,14 +126,14 @@ pub fn element_count(book: &[u8], index: &[u32], at: usize, length: u64) -> u64
     length / (size as u64)
 }
 
-// Whether too few bytes for the member at p end the structure at `at` as read.
+// Whether too few bytes for the member at p end the structure whose type is at `at` as read.
 pub fn absorbs(book: &[u8], at: usize, p: usize) -> bool
     ensures { λ r. ⌜ r ≡ absorbs (typeAt (now (book .entry)) at) (memberAt (now (book .entry)) p) ⌝ }
 {
     (extensibility(book, at) == 1) | (book::member::construct(book, p) == 0)
 }
 
-// Where the contents of a Final or Appendable value begin.
+// Serialization rules 29 and 30: where the contents of a Final or Appendable value begin.
 pub fn contents_at(book: &[u8], s: &[u8], set: Settings, at: usize, c: Cursor) -> Place
     ensures { λ r. ⌜ r ≡ contentsAt (now (s .entry)) set (typeAt (now (book .entry)) at) c ⌝ }
 {

@@ -55,7 +55,7 @@ impl Cursor {
         gap(pos - origin, alignment)
     }
 
-    // Past a block of n bytes. This alone asks where the data ends; a block's bytes stay in the data, so the Rust's read_bytes is this too.
+    // Past a block of n bytes. A block's bytes stay in the data, so the Rust's read_bytes is this too.
     pub fn seek(self, s: &[u8], n: usize) -> Place
         ensures { λ r. ⌜ r ≡ seekTo (now (s .entry)) self n ⌝ }
     {

@@ -2,9 +2,6 @@ use Rattle.lookup.proofs.Hints.{led-start, led-nowhere}
 use borrow.Author.Needs.{needs}
 use Rattle.lookup.proofs.ahead.first.Statement.{statement}
 use Rattle.lookup.proofs.ahead.first.Tie as tie
-use Rattle.lookup.proofs.ahead.first.Reads as reads
-use Rattle.lookup.proofs.ahead.first.Lts as lts
-use Rattle.lookup.proofs.ahead.from.Reads as from-reads
 
 from-requires : tie.Need-from-requires
 from-requires c κs = search needs

@@ -1,11 +1,8 @@
 use Rattle.lookup.proofs.Aheads.{passed-end, passed-to}
 use mathlib.Core.Path.{refl}
-use native.Mathlib.Omega.{arith}
 use borrow.Author.Needs.{needs}
 use Rattle.lookup.proofs.ahead.past.Statement.{statement}
 use Rattle.lookup.proofs.ahead.past.Tie as tie
-use Rattle.lookup.proofs.ahead.past.Reads as reads
-use Rattle.lookup.proofs.ahead.past.Lts as lts
 
 add-to : tie.Need-add-to
 add-to c = search needs

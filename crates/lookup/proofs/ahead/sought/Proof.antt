@@ -2,11 +2,6 @@ use Rattle.lookup.proofs.Hints.{sought-none, sought-at, head-there}
 use borrow.Author.Needs.{needs}
 use Rattle.lookup.proofs.ahead.sought.Statement.{statement}
 use Rattle.lookup.proofs.ahead.sought.Tie as tie
-use Rattle.lookup.proofs.ahead.sought.Reads as reads
-use Rattle.lookup.proofs.ahead.sought.Lts as lts
-use Rattle.lookup.proofs.ahead.none.Reads as none-reads
-use Rattle.lookup.proofs.ahead.xcdr1.Reads as xcdr1-reads
-use Rattle.lookup.proofs.ahead.xcdr2.Reads as xcdr2-reads
 
 none-requires : tie.Need-none-requires
 none-requires c κs = search needs

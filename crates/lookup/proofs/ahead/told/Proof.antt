@@ -2,8 +2,6 @@ use Rattle.lookup.proofs.Aheads.{told-last}
 use borrow.Author.Needs.{needs}
 use Rattle.lookup.proofs.ahead.told.Statement.{statement}
 use Rattle.lookup.proofs.ahead.told.Tie as tie
-use Rattle.lookup.proofs.ahead.told.Reads as reads
-use Rattle.lookup.proofs.ahead.told.Lts as lts
 
 returns : tie.Need-returns
 returns c = search needs

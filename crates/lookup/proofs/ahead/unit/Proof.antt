@@ -3,8 +3,6 @@ use Rattle.lookup.proofs.Aheads.{unit-at, unit-last}
 use mathlib.Core.Path.{refl}
 use Rattle.lookup.proofs.ahead.unit.Statement.{statement}
 use Rattle.lookup.proofs.ahead.unit.Tie as tie
-use Rattle.lookup.proofs.ahead.unit.Reads as reads
-use Rattle.lookup.proofs.ahead.unit.Lts as lts
 
 returns : tie.Need-returns
 returns c = (unit-at _ 4 1 (c .match .keys1) refl, search needs)

@@ -2,12 +2,6 @@ use Rattle.lookup.proofs.Aheads.{ahead-none, ahead1}
 use borrow.Author.Needs.{needs}
 use Rattle.lookup.proofs.ahead.xcdr1.Statement.{statement}
 use Rattle.lookup.proofs.ahead.xcdr1.Tie as tie
-use Rattle.lookup.proofs.ahead.xcdr1.Reads as reads
-use Rattle.lookup.proofs.ahead.xcdr1.Lts as lts
-use Rattle.lookup.proofs.ahead.found.Reads as found-reads
-use Rattle.lookup.proofs.ahead.none.Reads as none-reads
-use Rattle.lookup.proofs.ahead.past.Reads as past-reads
-use Rattle.wire.proofs.number.from_bytes.Reads as from-bytes-reads
 
 from-bytes-requires : tie.Need-from-bytes-requires
 from-bytes-requires c κs = search needs

@@ -3,12 +3,6 @@ use native.Mathlib.Omega.{arith}
 use borrow.Author.Needs.{needs}
 use Rattle.lookup.proofs.dheader.dheader.Statement.{statement}
 use Rattle.lookup.proofs.dheader.dheader.Tie as tie
-use Rattle.lookup.proofs.dheader.dheader.Reads as reads
-use Rattle.lookup.proofs.dheader.dheader.Lts as lts
-use Rattle.wire.proofs.cursor.Cursor.new.Reads as new-reads
-use Rattle.wire.proofs.cursor.Cursor.start.Reads as start-reads
-use Rattle.wire.proofs.number.from_bytes.Reads as from-bytes-reads
-use Rattle.wire.proofs.number.read_number.Reads as read-number-reads
 
 start-requires : tie.Need-start-requires
 start-requires c κs = search needs

@@ -2,12 +2,6 @@ use Rattle.reader.proofs.PlainSteps.{ahead-none, ahead-at}
 use borrow.Author.Needs.{needs}
 use Rattle.reader.proofs.plain.ahead.Statement.{statement}
 use Rattle.reader.proofs.plain.ahead.Tie as tie
-use Rattle.reader.proofs.plain.ahead.Reads as reads
-use Rattle.reader.proofs.plain.ahead.Lts as lts
-use Rattle.book.proofs.bytes.left_at.Reads as left-at-reads
-use Rattle.book.proofs.member.id.Reads as id-reads
-use Rattle.lookup.proofs.ahead.none.Reads as none-reads
-use Rattle.lookup.proofs.ahead.sought.Reads as sought-reads
 
 left-at-requires : tie.Need-left-at-requires
 left-at-requires c κs = search needs

@@ -2,15 +2,6 @@ use Rattle.reader.proofs.PlainSteps.{plain-none, plain-taken}
 use borrow.Author.Needs.{needs}
 use Rattle.reader.proofs.plain.take.Statement.{statement}
 use Rattle.reader.proofs.plain.take.Tie as tie
-use Rattle.reader.proofs.plain.take.Reads as reads
-use Rattle.reader.proofs.plain.take.Lts as lts
-use Rattle.book.proofs.bytes.left_at.Reads as left-at-reads
-use Rattle.book.proofs.index.place.Reads as place-reads
-use Rattle.book.proofs.member.id.Reads as id-reads
-use Rattle.book.proofs.member.is_optional.Reads as is-optional-reads
-use Rattle.book.proofs.member.type_index.Reads as type-index-reads
-use Rattle.reader.proofs.types.read_as.Reads as read-as-reads
-use Rattle.values.proofs.quick.take.Reads as take-reads
 
 left-at-requires : tie.Need-left-at-requires
 left-at-requires c κs = search needs

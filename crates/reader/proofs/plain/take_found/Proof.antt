@@ -2,13 +2,6 @@ use Rattle.reader.proofs.PlainSteps.{found-none, found-taken}
 use borrow.Author.Needs.{needs}
 use Rattle.reader.proofs.plain.take_found.Statement.{statement}
 use Rattle.reader.proofs.plain.take_found.Tie as tie
-use Rattle.reader.proofs.plain.take_found.Reads as reads
-use Rattle.reader.proofs.plain.take_found.Lts as lts
-use Rattle.book.proofs.bytes.left_at.Reads as left-at-reads
-use Rattle.book.proofs.index.place.Reads as place-reads
-use Rattle.book.proofs.member.type_index.Reads as type-index-reads
-use Rattle.reader.proofs.types.read_as.Reads as read-as-reads
-use Rattle.values.proofs.quick.take_found.Reads as take-found-reads
 
 left-at-requires : tie.Need-left-at-requires
 left-at-requires c κs = search needs

@@ -2,10 +2,6 @@ use Rattle.reader.proofs.BegunSteps.{dheader-short, dheader-at}
 use borrow.Author.Needs.{needs}
 use Rattle.reader.proofs.types.after_its_dheader.Statement.{statement}
 use Rattle.reader.proofs.types.after_its_dheader.Tie as tie
-use Rattle.reader.proofs.types.after_its_dheader.Reads as reads
-use Rattle.reader.proofs.types.after_its_dheader.Lts as lts
-use Rattle.lookup.proofs.dheader.dheader.Reads as dheader-reads
-use Rattle.reader.proofs.types.aligned.Reads as aligned-reads
 
 dheader-requires : tie.Need-dheader-requires
 dheader-requires c κs = search needs

@@ -2,10 +2,6 @@ use Rattle.reader.proofs.BegunSteps.{aligned-none, aligned-short, align
 use borrow.Author.Needs.{needs}
 use Rattle.reader.proofs.types.aligned.Statement.{statement}
 use Rattle.reader.proofs.types.aligned.Tie as tie
-use Rattle.reader.proofs.types.aligned.Reads as reads
-use Rattle.reader.proofs.types.aligned.Lts as lts
-use Rattle.book.proofs.member.member_count.Reads as member-count-reads
-use Rattle.wire.proofs.cursor.Cursor.align.Reads as align-reads
 
 member-count-requires : tie.Need-member-count-requires
 member-count-requires c κs = search needs

@@ -2,11 +2,6 @@ use Rattle.reader.proofs.BegunSteps.{begun-first, begun-second, begun-a
 use borrow.Author.Needs.{needs}
 use Rattle.reader.proofs.types.begun.Statement.{statement}
 use Rattle.reader.proofs.types.begun.Tie as tie
-use Rattle.reader.proofs.types.begun.Reads as reads
-use Rattle.reader.proofs.types.begun.Lts as lts
-use Rattle.lookup.proofs.dheader.dheader.Reads as dheader-reads
-use Rattle.reader.proofs.types.after_its_dheader.Reads as after-its-dheader-reads
-use Rattle.reader.proofs.types.aligned.Reads as aligned-reads
 
 enum-told : tie.Need-enum-told
 enum-told c = search needs

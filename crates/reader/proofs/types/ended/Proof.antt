@@ -2,10 +2,6 @@ use Rattle.reader.proofs.LookedSteps.{ended-first, ended-lost, ended-se
 use borrow.Author.Needs.{needs}
 use Rattle.reader.proofs.types.ended.Statement.{statement}
 use Rattle.reader.proofs.types.ended.Tie as tie
-use Rattle.reader.proofs.types.ended.Reads as reads
-use Rattle.reader.proofs.types.ended.Lts as lts
-use Rattle.lookup.proofs.xcdr1.seek_to_sentinel.Reads as seek-to-sentinel-reads
-use Rattle.wire.proofs.cursor.Cursor.new.Reads as new-reads
 
 enum-told : tie.Need-enum-told
 enum-told c = search needs

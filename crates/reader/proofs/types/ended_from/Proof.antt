@@ -2,10 +2,6 @@ use Rattle.reader.proofs.LookedSteps.{ended-led}
 use borrow.Author.Needs.{needs}
 use Rattle.reader.proofs.types.ended_from.Statement.{statement}
 use Rattle.reader.proofs.types.ended_from.Tie as tie
-use Rattle.reader.proofs.types.ended_from.Reads as reads
-use Rattle.reader.proofs.types.ended_from.Lts as lts
-use Rattle.reader.proofs.types.ended.Reads as ended-reads
-use Rattle.wire.proofs.cursor.Cursor.new.Reads as new-reads
 
 enum-told : tie.Need-enum-told
 enum-told c = search needs

@@ -2,10 +2,6 @@ use Rattle.reader.proofs.Asked.{structure-not, structure-mutable}
 use borrow.Author.Needs.{needs}
 use Rattle.reader.proofs.types.is_mutable_structure.Statement.{statement}
 use Rattle.reader.proofs.types.is_mutable_structure.Tie as tie
-use Rattle.reader.proofs.types.is_mutable_structure.Reads as reads
-use Rattle.reader.proofs.types.is_mutable_structure.Lts as lts
-use Rattle.reader.proofs.types.is_mutable.Reads as is-mutable-reads
-use Rattle.reader.proofs.types.kind_at.Reads as kind-at-reads
 
 kind-at-requires : tie.Need-kind-at-requires
 kind-at-requires c κs = search needs
