@@ -15,7 +15,7 @@ use Rattle.book.specs.declared.labels.Found.{Found}
 use Rattle.book.specs.declared.labels.Found.the-variants.{At, Nothing}
 use Rattle.book.specs.Types.{BookType, Member, default}
 use Rattle.book.specs.Places.{memberAt, typeAt, typesBy, listed, Started, After, PlaceOf}
-use Rattle.book.specs.Labels.{orElse, when, firstWith, lastDefault, told}
+use Rattle.book.specs.Labels.{orElse, firstWith, lastDefault, told}
 use Rattle.book.proofs.Places.{run-more, run-none}
 use Rattle.book.proofs.Search.{where-found, where-turn, where-end}
 use Rattle.choice.specs.Select.{firstDefault, firstOf, firstLabel, labelOf, defaultValue, byDefaultValue, selectedOf}

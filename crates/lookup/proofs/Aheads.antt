@@ -4,7 +4,6 @@ use mathlib.Core.Path.{_≡_, refl, sym, ap, _∙_}
 use mathlib.Core.Bool.{Bool, true, false}
 use mathlib.Core.List.{List}
 use native.Mathlib.Omega.{arith}
-use native.Mathlib.Nat.{mul-le-mul, le-of-lt}
 use lib.ListN.{length}
 use lib.Dec.{eqb}
 use borrow.Author.Tests.{eq-eqb, ne-eqb, lt-ltb, le-ltb}
@@ -65,7 +64,7 @@ module _ (s : List ℕ) (set : Settings) where
   unfolding Leads
   lead-refl c n id l = refl
 
-  pub lead-trans : (a b c : Cursor) (m n : ℕ) → Leads s set a b m → Leads s set b c n → m ≤ n → Leads s set a c n
+  lead-trans : (a b c : Cursor) (m n : ℕ) → Leads s set a b m → Leads s set b c n → m ≤ n → Leads s set a c n
   unfolding Leads
   lead-trans a b c m n f g h id l = f id (omega arith) ∙ g id l
 
@@ -180,13 +179,6 @@ module _ (s : List ℕ) (set : Settings) (v pos origin : ℕ) (long : LongHead s
   unfolding xcdr2.steppedBack
   ahead-long next other p r f =
       ahead2 s set pos origin (long .head) (long .version) v (long .is) (m * u) _ told-long (pos + 4 + 4) next r f (rw (ne-eqb (xcdr2.lcOf v) 5 other)) refl (omega arith) p
-
--- eight times a u32 is far from what a word holds
-pub long-word : (m u : ℕ) → m < 256 ^ 4 → u ≤ 8 → m * u < 2 ^ 64
-long-word m u h k = omega (arith, mul-le-mul (le-of-lt h) k)
-
-pub long-fits : (m u : ℕ) → m < 256 ^ 4 → u ≤ 8 → m * u ≤ 2 ^ 35
-long-fits m u h k = omega (arith, mul-le-mul (le-of-lt h) k)
 
 -- a value that is not empty is not the end
 not-end : (id n : ℕ) → (n ≡ 0 → ⊥) → xcdr1.isEnd id n ≡ false

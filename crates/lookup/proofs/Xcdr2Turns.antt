@@ -26,6 +26,13 @@ use Rattle.lookup.specs.declared.search.Turn.{Turn}
 use Rattle.lookup.specs.declared.search.Turn.the-variants.{Done, On}
 use Rattle.lookup.proofs.Turns.{done-on, short-done, found-done, not-done, pick-never, then-moved, past-moves, past-there, never-missing}
 
+-- eight times a u32 is far from what a word holds
+pub times-fits : (n u : ℕ) → n < 256 ^ 4 → u ≤ 8 → n * u ≤ 2 ^ 35
+times-fits n u h k = omega (arith, mul-le-mul (le-of-lt h) k)
+
+pub times-word : (n u : ℕ) → n < 256 ^ 4 → u ≤ 8 → n * u < 2 ^ 64
+times-word n u h k = omega (arith, times-fits n u h k)
+
 -- NEXTINT
 module _ (s : List ℕ) (set : Settings) (unit : ℕ) (c : Cursor) (r : Number) (is : ReadIs s set c 4 r) where
   pub nextint-short : (x : Shortage) → r ≡ number.Short x → number.Short x ≡ nextintTimes s set unit c
@@ -36,12 +43,8 @@ module _ (s : List ℕ) (set : Settings) (unit : ℕ) (c : Cursor) (r : Number) 
   unfolding nextintTimes afterNumber
   nextint-got n d e = rw (sym (is .is) ∙ e)
 
-  -- eight times a u32 is far from what a word holds
   pub nextint-fits : (n : ℕ) (d : Cursor) → unit ≤ 8 → r ≡ number.Got n d → n * unit < 2 ^ 64
-  nextint-fits n d h e = fits n h (rw e at (is .small))
-    where
-      fits : (n : ℕ) → unit ≤ 8 → n < 256 ^ 4 → n * unit < 2 ^ 64
-      fits n h k = omega (arith, mul-le-mul (le-of-lt k) h)
+  nextint-fits n d h e = times-word n unit (rw e at (is .small)) h
 
 -- the length, by the length code
 pub by-code : (s : List ℕ) (set : Settings) (v lc : ℕ) (c : Cursor) → lc ≡ lcOf v → (k : ℕ) (r : Number) → lc ≡ k → r ≡ lengthByLc s set k c → r ≡ lengthOf s set v c

@@ -74,7 +74,7 @@ module _ (s : List ℕ) (set : Settings) (c : Cursor) (ms : List Member) where
   ended-there after (number.Short x) f end d e = absurd (at-not-short end d x (sym e))
   ended-there after (number.Got n y) f end d e = let h : y ≡ d = cc in rw h at (four-aligned s set c n y after f)
 
-  pub dheader-aligned : c .origin ≤ c .pos → (end : ℕ) (d : Cursor) → endingAt s set c ≡ ending.At end d → alignTo s (set .version) d 4 ≡ place.At d
+  dheader-aligned : c .origin ≤ c .pos → (end : ℕ) (d : Cursor) → endingAt s set c ≡ ending.At end d → alignTo s (set .version) d 4 ≡ place.At d
   unfolding endingAt
   dheader-aligned after end d e = ended-there after (readNumber s set c 4) refl end d e
 

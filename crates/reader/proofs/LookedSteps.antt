@@ -40,10 +40,10 @@ use Rattle.table.specs.declared.out.Out.{Out}
 use Rattle.table.specs.declared.out.Out.the-variants.{Read, Short, Refused}
 use Rattle.table.specs.Rows.{room}
 use Rattle.table.specs.Outcome.{Outcome, read, short, refused, prepend, andThen, backTo, Done}
-use Rattle.table.proofs.Filling.{filled-none, filled-fits, room-used}
+use Rattle.table.proofs.Filling.{filled-none, room-used}
 use Rattle.table.proofs.Outcomes.{is-read, is-short, is-refused, is-same, is-after, was-read, was-short, was-refused, then-read, then-short, then-refused, prepend-nil, prepend-then, Sofar, sofar-start, sofar-more, sofar-short, sofar-refused}
 use Rattle.values.specs.Quick.{Quickly}
-use Rattle.values.proofs.Quickly.{quick-done, quick-none}
+use Rattle.values.proofs.Quickly.{quick-done, quick-none, quick-next}
 use Rattle.reader.specs.Value.{Nest}
 use Rattle.reader.specs.Member.{foundOf, onLocated, mmemberOf}
 use Rattle.reader.specs.Structure.{mmembersOf, atSentinel}
@@ -212,7 +212,7 @@ module _ (types : List BookType) (s : List ℕ) (set : Settings) (nest : Nest) (
 
 -- a row that was written has its place
 pub met-next : (types : List BookType) (s : List ℕ) (set : Settings) (m : Member) (c : Cursor) (n : ℕ) (t u : List ℕ) (x : ℕ) → ((f : Nest) (j : ℕ) → Quickly (foundOf types s set f m j c (room t n)) 1 n (c .origin) t u x) → 0 < x → length t < 2 ^ 64 → Fits w64 (n + 1)
-met-next types s set m c n t u x q y k = let w = was-read (quick-done 1 x y (q (λ ty id d r. read d []) 0)) refl in omega (arith, w .count, filled-fits (w .filled))
+met-next types s set m c n t u x q y k = quick-next _ _ _ _ _ x y (q (λ ty id d r. read d []) 0) k
 
 -- what is told of an id, of a cursor and of a hint that have names
 pub small-as : (i j k : ℕ) → i ≡ j → j < k → i < k

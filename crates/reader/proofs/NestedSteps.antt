@@ -47,9 +47,6 @@ module _ (types : List BookType) (s : List ℕ) (set : Settings) (nest : Nest) (
     no-enum : eqb (typeAt b at .kind) 21 ≡ false
     no-enum = ne-eqb (typeAt b at .kind) 21 (λ e. other (kind ∙ e))
 
-    structure : (k ≡ 22) → eqb (typeAt b at .kind) 22 ≡ true
-    structure e = eq-eqb (typeAt b at .kind) 22 (sym kind ∙ e)
-
     no-structure : (k ≡ 22 → ⊥) → eqb (typeAt b at .kind) 22 ≡ false
     no-structure h = ne-eqb (typeAt b at .kind) 22 (λ e. h (kind ∙ e))
 

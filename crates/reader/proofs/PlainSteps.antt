@@ -21,15 +21,12 @@ use Rattle.book.specs.Types.{BookType, Member, optional, typeNo}
 use Rattle.book.specs.Places.{memberAt, typeAt, typesBy, PlaceOf}
 use Rattle.lookup.specs.declared.ahead.Ahead.{Ahead}
 use Rattle.lookup.specs.declared.ahead.Hint.{Hint}
-use Rattle.lookup.specs.Ahead.{aheadOf, Sought}
-use Rattle.lookup.proofs.Hints.{sought-none}
+use Rattle.lookup.specs.Ahead.{Sought}
 use Rattle.table.specs.Rows.{room}
 use Rattle.table.specs.Outcome.{read}
-use Rattle.table.proofs.Filling.{filled-fits}
-use Rattle.table.proofs.Outcomes.{was-read}
 use Rattle.values.specs.Scalar.{scalarOf}
 use Rattle.values.specs.Quick.{isTaken, Quickly}
-use Rattle.values.proofs.Quickly.{quick-not, quick-done, quick-as}
+use Rattle.values.proofs.Quickly.{quick-not, quick-as, quick-next}
 use Rattle.reader.specs.Value.{Nest, isSequence, primitiveElement, readAs, valueOf}
 use Rattle.reader.specs.Member.{byLength, foundBy, foundOf, fmemberBy, fmemberOf}
 
@@ -73,7 +70,7 @@ module _ (types : List BookType) (s : List ℕ) (set : Settings) (nest : Nest) (
   unfolding readAs
   own e = read ∙ rw e
 
-  pub taken-value : valueOf types s set nest ty id c r ≡ scalarOf s set k id c r
+  taken-value : valueOf types s set nest ty id c r ≡ scalarOf s set k id c r
   unfolding valueOf unsupportedMember opens
   taken-value = go (eqb (typeNo types ty .kind) 19) refl
     where
@@ -94,7 +91,7 @@ module _ (types : List BookType) (s : List ℕ) (set : Settings) (nest : Nest) (
           rw (a, b, d, g) (ap (λ (x : ℕ). scalarOf s set x id c r) (sym read))
 
   -- and is no sequence
-  pub taken-other : (v : Version) → byLength v types (typeNo types ty) ≡ false
+  taken-other : (v : Version) → byLength v types (typeNo types ty) ≡ false
   unfolding byLength isSequence isTaken
   taken-other Xcdr1 = refl
   taken-other Xcdr2 = go (eqb (typeNo types ty .kind) 19) refl
@@ -136,14 +133,8 @@ module _ (b index s : List ℕ) (set : Settings) (p : ℕ) (c : Cursor) (t : Lis
 -- a row that was written has its place
 pub plain-next : (types : List BookType) (s : List ℕ) (set : Settings) (m : Member) (c : Cursor) (t : List ℕ) (n : ℕ) (u : List ℕ) (r : ℕ)
     → ((nest : Nest) → Quickly (fmemberOf types s set nest m c (room t n)) 1 n (c .origin) t u r) → 0 < r → length t < 2 ^ 64 → Fits w64 (n + 1)
-plain-next types s set m c t n u r q h l =
-    let w = was-read (quick-done 1 r h (q (λ ty id d k. read d []))) refl in
-    omega (arith, w .count, filled-fits (w .filled))
+plain-next types s set m c t n u r q h l = quick-next _ _ _ _ _ r h (q (λ ty id d k. read d [])) l
 
 -- the header where the hint says is asked for the member's own id
-module _ (b s : List ℕ) (set : Settings) (p : ℕ) (h : Hint) (origin : ℕ) (r : Ahead) where
-  pub ahead-none : r ≡ aheadOf 0 0 0 → Sought s set (memberAt b p .id) h origin r
-  ahead-none e = sought-none s set (memberAt b p .id) h origin r e
-
-  pub ahead-at : (i : ℕ) → i ≡ memberAt b p .id → Sought s set i h origin r → Sought s set (memberAt b p .id) h origin r
-  ahead-at i e k = rw e at k
+pub sought-of : (b s : List ℕ) (set : Settings) (p : ℕ) (h : Hint) (origin : ℕ) (r : Ahead) (i : ℕ) → i ≡ memberAt b p .id → Sought s set i h origin r → Sought s set (memberAt b p .id) h origin r
+sought-of b s set p h origin r i e k = rw e at k

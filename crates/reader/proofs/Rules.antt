@@ -7,7 +7,7 @@ use Rattle.reader.proofs.MemberSteps.{found-length, found-value, mmembe
 use Rattle.reader.proofs.StructureSteps.{fmembers-start, fmembers-turn, fmembers-ended, fmembers-short, fmembers-refused, fmembers-quick, fmembers-next, fmembers-end}
 use Rattle.reader.proofs.SeveralSteps.{several-start, several-end, flag-known, nested-structure, opened-structures, fmember-structure, found-structure}
 use Rattle.reader.proofs.LookedSteps.{looked-start}
-use Rattle.reader.proofs.UnionSteps.{selected-absent, selected-unfit, selected-none, selected-looked, selected-plain, union-empty, funion-short, funion-refused, funion-read, munion-short, munion-refused, munion-read}
+use Rattle.reader.proofs.UnionSteps.{chosen-absent, chosen-unfit, chosen-none, chosen-looked, chosen-plain, union-empty, funion-short, funion-refused, funion-read, munion-short, munion-refused, munion-read}
 use Rattle.reader.proofs.NestedSteps.{body-enum, body-munion, body-short, body-funion, nested-unfit, nested-deep, nested-full, nested-read, nested-short, nested-refused}
 
 pub ruleset opened-laws = (opened-structures, opened-start, opened-turn, opened-short, opened-refused, opened-end)
@@ -36,7 +36,7 @@ pub ruleset met-laws = (found-structure, row-next)
 
 pub ruleset mrun-laws = (looked-start, row-next)
 
-pub ruleset chosen-laws = (fmember-optional, fmember-value, selected-absent, selected-unfit, selected-none, selected-looked, selected-plain)
+pub ruleset chosen-laws = (fmember-optional, fmember-value, chosen-absent, chosen-unfit, chosen-none, chosen-looked, chosen-plain)
 
 pub ruleset funion-laws = (union-empty, funion-short, funion-refused, funion-read)
 

@@ -2,7 +2,7 @@
 use Prim.Native.Nat.{ℕ, zero, suc, _+_, _-_, _≤_, _<_}
 use mathlib.Core.Path.{_≡_, refl, sym, ap, _∙_}
 use mathlib.Core.Bool.{Bool, true, false, not}
-use mathlib.Core.List.{List, [], _∷_, append-nil}
+use mathlib.Core.List.{List, [], append-nil}
 use native.Mathlib.Omega.{arith}
 use native.Mathlib.Nat.{sub-zero}
 use mir.Syntax.{w64}
@@ -205,7 +205,7 @@ module _ (b index s : List ℕ) (set : Settings) (D ty q : ℕ) (z : Bool) (at :
       ∙ ap (λ (x : BookType). roomFor k (closed 22 id ty (bodyOf types s set (nestedAt types s set d) x c (k - 1)))) (sym (at .is))
       ∙ ap (λ (o : Outcome). roomFor k (closed 22 id ty o)) g
 
-  pub nested-is : 0 < D → (id : ℕ) (c : Cursor) (k : ℕ) → nestedAt types s set D ty id c k ≡ structureOf types s set deeper z (typeAt b q) ty id c k
+  nested-is : 0 < D → (id : ℕ) (c : Cursor) (k : ℕ) → nestedAt types s set D ty id c k ≡ structureOf types s set deeper z (typeAt b q) ty id c k
   nested-is h id c k = opened-is id c k (D - 1) (omega arith)
 
   value-is : (id : ℕ) (c : Cursor) (k : ℕ) → valueOf types s set (nestedAt types s set D) ty id c k ≡ nestedAt types s set D ty id c k

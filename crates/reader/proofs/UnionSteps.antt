@@ -42,35 +42,35 @@ module _ (types : List BookType) (s : List ℕ) (set : Settings) (nest : Nest) (
     abbrev selection : Outcome
     selection = onDiscriminator types s set nest mutable (memberAt b p) (typeAt b at .members) c (room t n) v
 
-    pub selected-absent : v ≡ Absent → Done selection n t t (Refused NoDiscriminator)
+    pub chosen-absent : v ≡ Absent → Done selection n t t (Refused NoDiscriminator)
     unfolding onDiscriminator
-    selected-absent e = is-refused (ap (onDiscriminator types s set nest mutable (memberAt b p) (typeAt b at .members) c (room t n)) e) (filled-none t n)
+    chosen-absent e = is-refused (ap (onDiscriminator types s set nest mutable (memberAt b p) (typeAt b at .members) c (room t n)) e) (filled-none t n)
 
-    pub selected-unfit : v ≡ Unfit → Done selection n t t (Refused InvalidType)
+    pub chosen-unfit : v ≡ Unfit → Done selection n t t (Refused InvalidType)
     unfolding onDiscriminator
-    selected-unfit e = is-refused (ap (onDiscriminator types s set nest mutable (memberAt b p) (typeAt b at .members) c (room t n)) e) (filled-none t n)
+    chosen-unfit e = is-refused (ap (onDiscriminator types s set nest mutable (memberAt b p) (typeAt b at .members) c (room t n)) e) (filled-none t n)
 
     module _ (d : ℤ) (e : v ≡ Value d) (f : Found) (is : told b f ≡ selectedOf types (memberAt b p) (typeAt b at .members) d) where
       by : (o : Option Member) → told b f ≡ o → selection ≡ onSelected types s set nest mutable o c (room t n)
       unfolding onDiscriminator
       by o q = ap (onDiscriminator types s set nest mutable (memberAt b p) (typeAt b at .members) c (room t n)) e ∙ ap (λ (x : Option Member). onSelected types s set nest mutable x c (room t n)) (sym is ∙ q)
 
-      pub selected-none : f ≡ found.Nothing → Done selection n t t (Refused InvalidData)
+      pub chosen-none : f ≡ found.Nothing → Done selection n t t (Refused InvalidData)
       unfolding onSelected told
-      selected-none q = is-refused (by none (ap (told b) q)) (filled-none t n)
+      chosen-none q = is-refused (by none (ap (told b) q)) (filled-none t n)
 
       module _ (k : ℕ) (q : f ≡ found.At k) where
         is-member : selection ≡ memberBy types s set nest mutable (memberAt b k) c (room t n)
         unfolding onSelected told
         is-member = by (some (memberAt b k)) (ap (told b) q)
 
-        pub selected-looked : mutable ≡ true → (u : List ℕ) (r : Out) → Done (mmemberOf types s set nest (memberAt b k) c (room t n)) n t u r → Done selection n t u r
+        pub chosen-looked : mutable ≡ true → (u : List ℕ) (r : Out) → Done (mmemberOf types s set nest (memberAt b k) c (room t n)) n t u r → Done selection n t u r
         unfolding memberBy
-        selected-looked m u r h = is-same (is-member ∙ ap (λ (x : Bool). memberBy types s set nest x (memberAt b k) c (room t n)) m) h
+        chosen-looked m u r h = is-same (is-member ∙ ap (λ (x : Bool). memberBy types s set nest x (memberAt b k) c (room t n)) m) h
 
-        pub selected-plain : mutable ≡ false → (u : List ℕ) (r : Out) → Done (fmemberOf types s set nest (memberAt b k) c (room t n)) n t u r → Done selection n t u r
+        pub chosen-plain : mutable ≡ false → (u : List ℕ) (r : Out) → Done (fmemberOf types s set nest (memberAt b k) c (room t n)) n t u r → Done selection n t u r
         unfolding memberBy
-        selected-plain m u r h = is-same (is-member ∙ ap (λ (x : Bool). memberBy types s set nest x (memberAt b k) c (room t n)) m) h
+        chosen-plain m u r h = is-same (is-member ∙ ap (λ (x : Bool). memberBy types s set nest x (memberAt b k) c (room t n)) m) h
 
   -- the discriminator, and then the selected member
   module _ (ms : Run) (started : Started b at ms) (mutable : Bool) (c : Cursor) (t : List ℕ) (n : ℕ) where

@@ -298,19 +298,9 @@ pub fn mrun(
             let wanted = id(book, p);
             let c = value_at(version, v, origin);
             h = onward(ahead, wanted);
-            match met(
-                book,
-                index,
-                s,
-                set,
-                t,
-                p,
-                wanted as u64,
-                ahead.length,
-                c,
-                m,
-                depth,
-            ) {
+            let i = wanted as u64;
+            let size = ahead.length;
+            match met(book, index, s, set, t, p, i, size, c, m, depth) {
                 Out::Read(_, k) => {
                     m = k;
                     ms = after(book, ms);

@@ -1,5 +1,4 @@
 // A member: plain, optional, or found by its lookup.
-ghost use mathlib.Core.Path.{_≡_};
 ghost use Rattle.book.specs.Places.{memberAt};
 ghost use Rattle.table.specs.Rows.{room};
 ghost use Rattle.table.specs.Outcome.{Done};
@@ -7,7 +6,7 @@ ghost use Rattle.reader.specs.Cycle.{foundIn, mmemberIn, optionalIn, fme
 use crate::fstruct;
 use crate::types::by_length;
 use crate::types::element_count;
-use crate::types::is_final;
+use crate::types::is_final_structure;
 use crate::value::elements;
 use crate::value::value;
 use book::index::place;
@@ -44,7 +43,7 @@ pub fn fmember(
     let ty = type_index(book, p);
     let at = place(book, index, ty);
     let i = id(book, p) as u64;
-    if is_final(book, at) {
+    if is_final_structure(book, at) {
         if 0 < depth {
             return fstruct(book, index, s, set, t, at, ty, i, 1, c, n, depth - 1);
         }

@@ -57,7 +57,7 @@ pub fn is_mutable(book: &[u8], at: usize) -> bool
     extensibility(book, at) == 2
 }
 
-fn final_by(book: &[u8], at: usize) -> bool
+fn final_structure_by(book: &[u8], at: usize) -> bool
     ensures { λ r. ⌜ r ≡ isStructure false (typeAt (now (book .entry)) at) ⌝ }
 {
     if kind_at(book, at) != STRUCTURE {
@@ -68,13 +68,13 @@ fn final_by(book: &[u8], at: usize) -> bool
 
 // Whether the type is a structure, Final or Appendable. That its bytes are there is asked once for the compiler, which then leaves it out for
 // each of them.
-pub fn is_final(book: &[u8], at: usize) -> bool
+pub fn is_final_structure(book: &[u8], at: usize) -> bool
     ensures { λ r. ⌜ r ≡ isStructure false (typeAt (now (book .entry)) at) ⌝ }
 {
     if left_at(book, at) < 10 {
-        return final_by(book, at);
+        return final_structure_by(book, at);
     }
-    final_by(book, at)
+    final_structure_by(book, at)
 }
 
 // Whether it is a Mutable structure.

@@ -1,5 +1,4 @@
 // Unions: the discriminator, and the member that it selects.
-ghost use mathlib.Core.Path.{_≡_};
 ghost use Rattle.book.specs.Places.{typeAt, memberAt};
 ghost use Rattle.table.specs.Rows.{room};
 ghost use Rattle.table.specs.Outcome.{Done};

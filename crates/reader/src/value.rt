@@ -1,5 +1,4 @@
 // A value by its type, and lists of values.
-ghost use mathlib.Core.Path.{_≡_};
 ghost use Rattle.book.specs.Places.{typeAt};
 ghost use Rattle.table.specs.Rows.{room};
 ghost use Rattle.table.specs.Outcome.{Done};
@@ -7,7 +6,7 @@ ghost use Rattle.reader.specs.Cycle.{openedIn, elementsIn, listIn, value
 use crate::as_nested;
 use crate::fstruct;
 use crate::mstruct;
-use crate::types::is_final;
+use crate::types::is_final_structure;
 use crate::types::is_mutable_structure;
 use crate::types::is_sequence;
 use crate::types::kind_at;
@@ -157,7 +156,7 @@ pub fn opened(
     ensures { λ r. ⌜ Done (openedIn (now (book .entry)) (now (index .entry)) (now (s .entry)) set depth ty count c (room (now (t .entry)) n)) n (now (t .entry)) (now (t .exit)) r ⌝ }
 {
     let at = place(book, index, ty);
-    if is_final(book, at) {
+    if is_final_structure(book, at) {
         if 0 < depth {
             return fstruct(book, index, s, set, t, at, ty, 0, count, c, n, depth - 1);
         }

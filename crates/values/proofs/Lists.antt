@@ -27,7 +27,7 @@ use Rattle.table.proofs.Outcomes.{is-short, is-refused, is-same, is-after, no-r
 use Rattle.values.specs.Scalar.{scalarOf}
 use Rattle.values.specs.List.{elementsFrom, listOf, onBlock, blockOf}
 use Rattle.values.specs.Quick.{Quickly}
-use Rattle.values.proofs.Quickly.{quick-done, quick-none}
+use Rattle.values.proofs.Quickly.{quick-done, quick-none, quick-next}
 
 module _ (s : List ℕ) (set : Settings) (kind count : ℕ) where
   more : (i : ℕ) (c : Cursor) (k : ℕ) → i < count → elementsFrom s set kind (count - i) i c k ≡ andThen (scalarOf s set kind i c k) (λ d used. elementsFrom s set kind (count - (i + 1)) (i + 1) d (k - used))
@@ -79,7 +79,7 @@ module _ (s : List ℕ) (set : Settings) (kind count : ℕ) where
       elements-left h = rw (quick-none _ 1 m (c .origin) u v r h q) inv
 
       pub elements-next : 0 < r → length t < 2 ^ 64 → Fits w64 (m + 1)
-      elements-next h k = let w = was-read (quick-done 1 r h q) refl in omega (arith, w .count, filled-fits (w .filled), inv .filled .long)
+      elements-next h k = quick-next _ _ _ _ _ r h q (rw (← (inv .filled .long)) at k)
 
     pub elements-end : count ≤ i → Done whole n t u (Read c m)
     elements-end h = sofar-read inv (none i c (room u m) h) (filled-none u m)

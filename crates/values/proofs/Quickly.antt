@@ -28,8 +28,8 @@ use Rattle.table.specs.declared.rows.Row.{Row}
 use Rattle.table.specs.declared.out.Out.the-variants.{Read}
 use Rattle.table.specs.Rows.{row, width, room, noRoom, putRow}
 use Rattle.table.specs.Outcome.{Outcome, Done}
-use Rattle.table.proofs.Filling.{full-fits}
-use Rattle.table.proofs.Outcomes.{is-same}
+use Rattle.table.proofs.Filling.{full-fits, filled-fits}
+use Rattle.table.proofs.Outcomes.{is-same, was-read}
 use Rattle.values.specs.Scalar.{scalarOf, onNumber, onBoolean, onText, boolWord, rowed, wordOf}
 use Rattle.values.specs.Quick.{isNumber, isTaken, Quickly}
 use Rattle.values.proofs.Scalars.{row-given}
@@ -45,6 +45,10 @@ module _ {o : Outcome} (k : ℕ) {n origin : ℕ} {a b : List ℕ} where
   unfolding Quickly
   quick-done zero h q = absurd (omega arith)
   quick-done (suc p) h q = q
+
+-- a row that was written has its place
+pub quick-next : (o : Outcome) (n origin : ℕ) (a b : List ℕ) (r : ℕ) → 0 < r → Quickly o 1 n origin a b r → length a < 2 ^ 64 → Fits w64 (n + 1)
+quick-next o n origin a b r h q k = let w = was-read (quick-done 1 r h q) refl in omega (arith, w .count, filled-fits (w .filled))
 
 pub quick-as : (o p : Outcome) (k n origin : ℕ) (a b : List ℕ) (r : ℕ) → Quickly p k n origin a b r → (0 < r → o ≡ p) → Quickly o k n origin a b r
 unfolding Quickly

@@ -116,9 +116,6 @@ module _ (s : List ℕ) (c : Cursor) (n : ℕ) where
 apart : (x : Shortage) (d : Cursor) → Short x ≡ At d → ⊥
 apart x d e = let z : _≡_ {A = ℕ} 0 1 = cc in omega arith
 
-apart' : (x : Shortage) (d : Cursor) → At d ≡ Short x → ⊥
-apart' x d e = let z : _≡_ {A = ℕ} 0 1 = cc in omega arith
-
 -- what a finished seek tells: the bytes were there, and the cursor is past them
 pub seek-inv : (s : List ℕ) (c : Cursor) (n : ℕ) (d : Cursor) → seekTo s c n ≡ At d → (c .pos + n ≤ length s) × (moved c n ≡ d)
 seek-inv s c n d e = go (leb (c .pos + n) (length s)) refl
@@ -126,14 +123,6 @@ seek-inv s c n d e = go (leb (c .pos + n) (length s)) refl
     go : (t : Bool) → leb (c .pos + n) (length s) ≡ t → (c .pos + n ≤ length s) × (moved c n ≡ d)
     go true h = (leb-true _ _ h, (let f : At (moved c n) ≡ At d = seek-at s c n (leb-true _ _ h) ∙ e in cc))
     go false h = absurd (apart (shortAt c) d (seek-short s c n (leb-false _ _ h) ∙ e))
-
--- what a short seek tells: the bytes were not there, and the cursor is kept
-pub seek-short-inv : (s : List ℕ) (c : Cursor) (n : ℕ) (x : Shortage) → seekTo s c n ≡ Short x → (length s < c .pos + n) × (shortAt c ≡ x)
-seek-short-inv s c n x e = go (leb (c .pos + n) (length s)) refl
-  where
-    go : (t : Bool) → leb (c .pos + n) (length s) ≡ t → (length s < c .pos + n) × (shortAt c ≡ x)
-    go true h = absurd (apart' x (moved c n) (seek-at s c n (leb-true _ _ h) ∙ e))
-    go false h = (leb-false _ _ h, (let f : Short (shortAt c) ≡ Short x = seek-short s c n (leb-false _ _ h) ∙ e in cc))
 
 -- a finished alignment moves on, not past the end, and keeps the origin
 pub align-inv : (s : List ℕ) (v : Version) (c : Cursor) (size : ℕ) (d : Cursor) → alignTo s v c size ≡ At d → (c .pos ≤ d .pos) × (d .pos ≤ length s) × (d .origin ≡ c .origin)

@@ -1,4 +1,5 @@
-use Rattle.lookup.proofs.Aheads.{ahead-back, ahead-long, ahead-none, long-word, long-fits}
+use Rattle.lookup.proofs.Aheads.{ahead-back, ahead-long, ahead-none}
+use Rattle.lookup.proofs.Xcdr2Turns.{times-word, times-fits}
 use borrow.Author.Needs.{needs}
 use Rattle.lookup.proofs.ahead.long.Statement.{statement}
 use Rattle.lookup.proofs.ahead.long.Tie as tie
@@ -22,7 +23,7 @@ unit-requires : tie.Need-unit-requires
 unit-requires c κs = search needs
 
 mul-length : tie.Need-mul-length
-mul-length c = search (needs, long-word)
+mul-length c = search (needs, times-word)
 
 none-requires-2 : tie.Need-none-requires-2
 none-requires-2 c κs = search needs
@@ -34,7 +35,7 @@ add-body : tie.Need-add-body
 add-body c = search needs
 
 past-requires : tie.Need-past-requires
-past-requires c κs = search (needs, long-fits)
+past-requires c κs = search (needs, times-fits)
 
 found-requires : tie.Need-found-requires
 found-requires c κs = search needs

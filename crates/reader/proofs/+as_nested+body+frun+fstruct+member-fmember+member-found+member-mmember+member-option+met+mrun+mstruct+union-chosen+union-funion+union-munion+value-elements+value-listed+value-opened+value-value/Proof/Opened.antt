@@ -15,12 +15,12 @@ use Rattle.reader.proofs.as_nested.Reads as as-nested
 use Rattle.reader.proofs.fstruct.Reads as fstruct
 use Rattle.reader.proofs.mstruct.Reads as mstruct
 use Rattle.book.proofs.index.place.Reads as place-reads
-use Rattle.reader.proofs.types.is_final.Reads as is-final-reads
+use Rattle.reader.proofs.types.is_final_structure.Reads as is-final-structure-reads
 use Rattle.reader.proofs.types.is_mutable_structure.Reads as is-mutable-structure-reads
 use Rattle.reader.proofs.Rules.{opened-laws}
 
 abbrev E : ℕ → lts.Claims
-E t = (place-reads.Asked, place-reads.Learnt, is-final-reads.Asked, is-final-reads.Learnt, fstruct-below t, fstruct.Post, is-mutable-structure-reads.Asked, is-mutable-structure-reads.Learnt, mstruct-below t, mstruct.Post, as-nested-below t, as-nested.Post)
+E t = (place-reads.Asked, place-reads.Learnt, is-final-structure-reads.Asked, is-final-structure-reads.Learnt, fstruct-below t, fstruct.Post, is-mutable-structure-reads.Asked, is-mutable-structure-reads.Learnt, mstruct-below t, mstruct.Post, as-nested-below t, as-nested.Post)
 
 abbrev Inv-loop : lts.InvT-loop
 Inv-loop book index s set t₀ ty count n depth at i₀ d₀ m₀ t i d m = OpenedSofar (typesBy book index) s set (nest book index s set depth) ty count (openedIn book index s set depth ty count d₀ (room t₀ n)) n t₀ t i d m
@@ -32,11 +32,11 @@ pub closed : (t : ℕ) {M : Type 1} → lts.Closed (E t) (value·opened-at t) va
 closed t =
     lts.spec (E t) (value·opened-at t) value·opened.Post Inv-loop μ-loop
     (λ c κs. search (needs, opened-laws))  -- place-requires
-    (λ c κs. search (needs, opened-laws))  -- is-final-requires
+    (λ c κs. search (needs, opened-laws))  -- is-final-structure-requires
     (λ c. search (needs, opened-laws))  -- sub-fstruct
     (λ c κs. search (needs, opened-laws))  -- fstruct-requires
     (λ c. search (needs, opened-laws))  -- same-length
-    (λ c. opened-structures _ _ _ _ _ _ _ _ (c .before .before .before .before .before .before .before .place .ensures) (sym (c .before .before .before .before .before .before .is-final .ensures) ∙ c .before .before .before .before .before .if1 .taken) (c .before .before .before .before .if2 .taken) _ _ _ _ _ _ (c .before .before .fstruct .ensures))  -- returns
+    (λ c. opened-structures _ _ _ _ _ _ _ _ (c .before .before .before .before .before .before .before .place .ensures) (sym (c .before .before .before .before .before .before .is-final-structure .ensures) ∙ c .before .before .before .before .before .if1 .taken) (c .before .before .before .before .if2 .taken) _ _ _ _ _ _ (c .before .before .fstruct .ensures))  -- returns
     (λ c κs. search (needs, opened-laws))  -- is-mutable-structure-requires
     (λ c. search (needs, opened-laws))  -- sub-mstruct
     (λ c κs. search (needs, opened-laws))  -- mstruct-requires

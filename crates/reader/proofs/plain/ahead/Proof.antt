@@ -1,4 +1,5 @@
-use Rattle.reader.proofs.PlainSteps.{ahead-none, ahead-at}
+use Rattle.reader.proofs.PlainSteps.{sought-of}
+use Rattle.lookup.proofs.Hints.{sought-none}
 use borrow.Author.Needs.{needs}
 use Rattle.reader.proofs.plain.ahead.Statement.{statement}
 use Rattle.reader.proofs.plain.ahead.Tie as tie
@@ -10,7 +11,7 @@ none-requires : tie.Need-none-requires
 none-requires c κs = search needs
 
 returns : tie.Need-returns
-returns c = search (needs, ahead-none, ahead-at)
+returns c = search (needs, sought-none, sought-of)
 
 id-requires : tie.Need-id-requires
 id-requires c κs = search needs
@@ -19,7 +20,7 @@ sought-requires : tie.Need-sought-requires
 sought-requires c κs = search needs
 
 returns-2 : tie.Need-returns-2
-returns-2 c = search (needs, ahead-none, ahead-at)
+returns-2 c = search (needs, sought-none, sought-of)
 
 pub ahead-spec : {M : Type 1} → statement M
 ahead-spec =
