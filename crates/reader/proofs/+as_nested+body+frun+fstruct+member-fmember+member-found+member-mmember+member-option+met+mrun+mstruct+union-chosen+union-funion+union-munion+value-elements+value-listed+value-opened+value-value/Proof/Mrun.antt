@@ -1,6 +1,5 @@
 -- `mrun`, one of the cycle. Made by tools/cycle.
 use Rattle.table.specs.Rows.{room}
-use mathlib.Core.Path.{refl, sym, _∙_}
 use Rattle.book.specs.Places.{typeAt, typesBy}
 use Rattle.reader.specs.Cycle.{nest, mmembersIn}
 use Rattle.reader.proofs.LookedSteps.{LookedSofar, same-long, looked-start, found-turn, found-short, found-refused, looked-turn, looked-short, looked-refused, looked-end, found-at, small-as, led-on, fewer}
@@ -41,7 +40,7 @@ closed t =
     (λ c κs. search (needs, mrun-laws))  -- id-requires
     (λ c κs. search (needs, mrun-laws))  -- value-at-requires
     (λ c κs. small-as _ _ _ (c .before .id .ensures) (c .before .before .before .ahead .ensures .small (c .before .before .if2 .taken)))  -- onward-requires
-    (λ c. search (needs, mrun-laws))  -- cast-met
+    (λ c. search (needs, mrun-laws))  -- cast-i
     (λ c κs. (search (needs, mrun-laws, c .before .before .before .before .before .before .before .before .before .before .before .before .before .before .before .pre .0), search (needs, c .before .before .before .id .ensures)))  -- met-requires
     (λ c. search (needs, mrun-laws))  -- enum-known-k
     (λ c κs. search (needs, mrun-laws))  -- after-requires
