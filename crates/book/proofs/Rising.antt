@@ -9,7 +9,7 @@ use lib.ListN.{length, drop, length-drop}
 use lib.Seq.{drop-drop}
 use borrow.Author.Tests.{le-leb, lt-ltb, leb-true, eqb-true, not-false}
 use Rattle.book.specs.Types.{BookType, bounded, byte, pair, quad, memberOf, pastMember, membersOf, typeOf}
-use Rattle.book.specs.Places.{from, memberAt, typeAt, earlier, Below}
+use Rattle.book.specs.Places.{Bare, from, memberAt, typeAt, earlier, Below}
 use Rattle.book.specs.Rules.{memberSize, filled, recordLengthOk, codesOk, kindOk, extensibilityOk, baseOk, boundFlagOk, boundsOk, arrayBoundOk, boundOk, elementOk, countOk, memberCountOk, memberKindOk, someMemberOk, ownOk, idOk, linkOk, flagsOk, constructOk, labelCountOk, firstOfUnion, memberOk, membersOk, typeOk, recordOk}
 use Rattle.book.proofs.Places.{member-count-is, label-count-is, length-members}
 use Rattle.book.proofs.Judging.{plain-own, link-some, member-other, id-above, below-more, pastMembers, one-more, allOk}
@@ -41,6 +41,10 @@ module _ (s : List ℕ) (size kind extensibility a c m : ℕ) (e₀ : size ≡ p
   unfolding recordOk typeOk membersOk
   plain-record l d h h₀ h₂ h₃ h₄ h₈ types k =
       rw (plain-length (omega arith) h₀, ← plain-type k h₂ h₃ h₄ h₈, no-members s none)
+
+-- THE OWN BYTES THAT HAVE NOTHING BUT AN EXTENSIBILITY
+pub bare-bytes : (s : List ℕ) (e a c : ℕ) → e ≡ byte s 3 → a ≡ quad s 4 → c ≡ quad s 8 → e ≤ 2 → a ≡ 0 → eqb c 65535 ≡ true → Bare s
+bare-bytes s e a c f g h i j k = record { extensibility = rw (← f) i; base = sym g ∙ j; element = sym h ∙ eqb-true c 65535 k }
 
 -- THE OWN BYTES OF A STRUCTURE
 structure-own : (t : BookType) (k : ℕ) → t .kind ≡ 22 → t .extensibility ≤ 2 → t .base ≡ 0 → t .boundFlag ≡ 0 → t .bound ≡ 0 → t .element ≡ 65535 → length (t .members) ≤ 64

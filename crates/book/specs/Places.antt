@@ -1,14 +1,20 @@
 -- Where the code stands in a book's bytes, and what stands there.
-use Prim.Native.Nat.{ℕ, zero, suc, _+_, _-_, _*_, _<_, min}
+use Prim.Native.Nat.{ℕ, zero, suc, _+_, _-_, _*_, _<_, _≤_, min}
 use mathlib.Core.Path.{_≡_}
 use mathlib.Core.List.{List, [], _∷_, _++_}
 use lib.ListN.{length, getD, drop}
-use Rattle.book.specs.Types.{Member, BookType, byte, pair, memberOf, pastMember, membersOf, typeOf, typeCount, typeNo}
+use Rattle.book.specs.Types.{Member, BookType, byte, pair, quad, memberOf, pastMember, membersOf, typeOf, typeCount, typeNo}
 use Rattle.book.specs.declared.member.Run.{Run}
 
 -- the bytes from p on
 unfoldable pub from : List ℕ → ℕ → List ℕ
 from b p = drop p b
+
+-- a record's own bytes that have an extensibility, and no base, bound or element
+pub record Bare (s : List ℕ) : Type 0 where
+  pub extensibility : byte s 3 ≤ 2
+  pub base : quad s 4 ≡ 0
+  pub element : quad s 8 ≡ 65535
 
 abbrev pub memberAt : List ℕ → ℕ → Member
 memberAt b p = memberOf (from b p)

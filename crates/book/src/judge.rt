@@ -6,7 +6,7 @@ ghost use Prim.Native.Nat.{ℕ, _+_, _<_, _≤_};
 ghost use lib.ListN.{length};
 ghost use Rattle.ground.specs.Choice.{pick, every};
 ghost use Rattle.book.specs.Types.{BookType, typeCount};
-ghost use Rattle.book.specs.Places.{from, memberAt, typeAt, listed, earlier, Below, indexed, typesBy};
+ghost use Rattle.book.specs.Places.{from, Bare, memberAt, typeAt, listed, earlier, Below, indexed, typesBy};
 ghost use Rattle.book.specs.Rules.{headOk, filled, recordLengthOk, codesOk, boundsOk, elementOk, countOk, ownOk};
 ghost use Rattle.book.specs.Rules.{otherId, linkOk, firstIdOk, firstKindOk, firstDefaultOk, firstLabelOk};
 ghost use Rattle.book.specs.Rules.{flagsOk, constructOk, labelCountOk, memberOk, membersOk, recordOk, recordsOk, bookOk};
@@ -255,6 +255,21 @@ fn fields_ok(b: &[u8], k: usize, p: usize) -> bool
     byte_there(b, p, 8) <= 16
 }
 
+// Whether the own bytes, which are there, have an extensibility and no base, bound or element.
+fn is_bare(b: &[u8], at: usize) -> bool
+    requires { ⌜ at + 14 ≤ length (now b) ⌝ }
+    ensures { λ r. ⌜ (r ≡ true → Bare (from (now (b .entry)) at)) ⌝ }
+{
+    if 2 < byte_there(b, at, 3) {
+        return false;
+    }
+    // base, flag and half of the bound; the other half, and the element
+    if quad_there(b, at, 4) != 0 {
+        return false;
+    }
+    quad_there(b, at, 8) == 65535
+}
+
 // Whether the own bytes, which are there, are those of a structure: an extensibility and at most 64 members, and nothing else.
 fn own_plain(b: &[u8], at: usize) -> bool
     requires { ⌜ at + 14 ≤ length (now b) ⌝ }
@@ -263,17 +278,10 @@ fn own_plain(b: &[u8], at: usize) -> bool
     if byte_there(b, at, 2) != STRUCTURE {
         return false;
     }
-    if 2 < byte_there(b, at, 3) {
-        return false;
+    if is_bare(b, at) {
+        return pair_there(b, at, 12) <= 64;
     }
-    // base, flag and half of the bound; the other half, and the element
-    if quad_there(b, at, 4) != 0 {
-        return false;
-    }
-    if quad_there(b, at, 8) != 65535 {
-        return false;
-    }
-    pair_there(b, at, 12) <= 64
+    false
 }
 
 // Whether the record is a structure's that keeps every rule, its ids rising from member to member. Most structures' are: one walk tells of
@@ -332,17 +340,10 @@ fn is_plain(b: &[u8], at: usize) -> bool
     if ANNOTATION < byte_there(b, at, 2) {
         return false;
     }
-    if 2 < byte_there(b, at, 3) {
-        return false;
+    if is_bare(b, at) {
+        return pair_there(b, at, 12) == 0;
     }
-    // base, flag and half of the bound; the other half, and the element
-    if quad_there(b, at, 4) != 0 {
-        return false;
-    }
-    if quad_there(b, at, 8) != 65535 {
-        return false;
-    }
-    pair_there(b, at, 12) == 0
+    false
 }
 
 // Record k, at a place.

@@ -1,4 +1,5 @@
 -- `book::judge::is_plain`: the 14 bytes are there, and a "no" says nothing.
+use mathlib.Core.Path.{refl}
 use native.Mathlib.Omega.{arith}
 use lib.Dec.{lit<}
 use Rattle.ground.proofs.Tests.{apart}
@@ -26,31 +27,18 @@ byte-there-requires c κs = omega (arith, fits _ _ 0 _ (c .before .before .befor
 returns-3 : tie.Need-returns-3
 returns-3 c = λ types k e. absurd (apart e)
 
-byte-there-requires-2 : tie.Need-byte-there-requires-2
-byte-there-requires-2 c κs = omega (arith, fits _ _ 0 _ (c .before .before .before .before .before .left-at .ensures) 14 (lit< tt) (c .before .before .before .before .if1 .left))
+is-bare-requires : tie.Need-is-bare-requires
+is-bare-requires c κs = omega (arith, fits _ _ 0 _ (c .before .before .before .before .before .left-at .ensures) 14 (lit< tt) (c .before .before .before .before .if1 .left))
+
+pair-there-requires-2 : tie.Need-pair-there-requires-2
+pair-there-requires-2 c κs = omega (arith, fits _ _ 0 _ (c .before .before .before .before .before .before .before .left-at .ensures) 14 (lit< tt) (c .before .before .before .before .before .before .if1 .left))
 
 returns-4 : tie.Need-returns-4
-returns-4 c = λ types k e. absurd (apart e)
-
-quad-there-requires : tie.Need-quad-there-requires
-quad-there-requires c κs = omega (arith, fits _ _ 0 _ (c .before .before .before .before .before .before .before .left-at .ensures) 14 (lit< tt) (c .before .before .before .before .before .before .if1 .left))
+returns-4 c = λ types k z. plain-record _ _ _ _ _ _ _ (c .before .before .before .before .before .before .pair-there .ensures .0) (c .before .before .before .before .byte-there .ensures .0) refl refl refl (c .pair-there2 .ensures .0) z
+    _ (c .before .before .before .before .before .before .before .before .left-at .ensures) (c .before .before .before .before .before .before .before .if1 .left) (c .before .before .before .before .before .if2 .left) (c .before .before .before .if3 .left) ((c .before .before .is-bare .ensures (c .before .if4 .taken)) .extensibility) ((c .before .before .is-bare .ensures (c .before .if4 .taken)) .base) ((c .before .before .is-bare .ensures (c .before .if4 .taken)) .element) types k
 
 returns-5 : tie.Need-returns-5
 returns-5 c = λ types k e. absurd (apart e)
-
-quad-there-requires-2 : tie.Need-quad-there-requires-2
-quad-there-requires-2 c κs = omega (arith, fits _ _ 0 _ (c .before .before .before .before .before .before .before .before .before .left-at .ensures) 14 (lit< tt) (c .before .before .before .before .before .before .before .before .if1 .left))
-
-returns-6 : tie.Need-returns-6
-returns-6 c = λ types k e. absurd (apart e)
-
-pair-there-requires-2 : tie.Need-pair-there-requires-2
-pair-there-requires-2 c κs = omega (arith, fits _ _ 0 _ (c .before .before .before .before .before .before .before .before .before .before .before .left-at .ensures) 14 (lit< tt) (c .before .before .before .before .before .before .before .before .before .before .if1 .left))
-
-returns-7 : tie.Need-returns-7
-returns-7 c = λ types k z. plain-record _ _ _ _ _ _ _ (c .before .before .before .before .before .before .before .before .before .before .pair-there .ensures .0) (c .before .before .before .before .before .before .before .before .byte-there .ensures .0) (c .before .before .before .before .before .before .byte-there2 .ensures .0)
-    (c .before .before .before .before .quad-there .ensures) (c .before .before .quad-there2 .ensures) (c .pair-there2 .ensures .0) z
-    _ (c .before .before .before .before .before .before .before .before .before .before .before .before .left-at .ensures) (c .before .before .before .before .before .before .before .before .before .before .before .if1 .left) (c .before .before .before .before .before .before .before .before .before .if2 .left) (c .before .before .before .before .before .before .before .if3 .left) (c .before .before .before .before .before .if4 .left) (c .before .before .before .if5 .left) (c .before .if6 .left) types k
 
 pub is-plain-spec : {M : Type 1} → statement M
 is-plain-spec =
@@ -62,11 +50,7 @@ is-plain-spec =
     returns-2
     byte-there-requires
     returns-3
-    byte-there-requires-2
-    returns-4
-    quad-there-requires
-    returns-5
-    quad-there-requires-2
-    returns-6
+    is-bare-requires
     pair-there-requires-2
-    returns-7)
+    returns-4
+    returns-5)
