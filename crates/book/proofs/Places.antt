@@ -1,5 +1,5 @@
 -- Laws that join places in a book's bytes with its types. Assumes nothing.
-use Prim.Native.Nat.{ℕ, zero, suc, _+_, _-_, _*_, _<_, _≤_}
+use Prim.Native.Nat.{ℕ, zero, suc, _+_, _-_, _*_, _%_, _<_, _≤_}
 use mathlib.Core.Path.{_≡_, refl, sym, ap, _∙_}
 use mathlib.Core.Bool.{Bool, true, false}
 use mathlib.Core.List.{List, [], _∷_}
@@ -7,14 +7,15 @@ use native.Mathlib.Nat.{add-assoc}
 use native.Mathlib.Omega.{arith}
 use lib.ListN.{length, getD, drop, List·getD-eq-default, drop-of-length-le, length-drop}
 use lib.Seq.{getD-drop, drop-drop, drop-length}
-use lib.Dec.{leb}
+use lib.Dec.{leb, ltb, eqb}
 use lib.IntN.{pos}
-use borrow.Author.Tests.{leb-true, leb-false}
+use borrow.Author.Tests.{leb-true, leb-false, ltb-true, ltb-false, lt-ltb, le-ltb}
 use mir.Syntax.{w32}
 use mir.Val.{toZ}
 use Rattle.book.specs.declared.member.Run.{Run}
-use Rattle.book.specs.Types.{byte, pair, quad, labelsOf, memberOf, pastMember, membersOf, typeOf, typeCount, noType, typeNo}
-use Rattle.book.specs.Places.{from, memberAt, typeAt, onward, Skipped, listed, later, Started, After, typesBy, PlaceOf}
+use Rattle.book.specs.declared.member.Head.{Head}
+use Rattle.book.specs.Types.{byte, pair, quad, labelsOf, memberOf, pastMember, membersOf, typeOf, typeCount, noType, typeNo, optional}
+use Rattle.book.specs.Places.{from, isThere, HeadOf, memberAt, typeAt, onward, Skipped, listed, later, Started, After, typesBy, PlaceOf}
 
 -- the bytes left at p
 module _ (b : List ℕ) (p : ℕ) where
@@ -39,6 +40,25 @@ module _ (b : List ℕ) (p k l : ℕ) (e : l ≡ length (from b p)) where
   pub fits : (n : ℕ) → 0 < n → k + n ≤ l → p + k + n ≤ length b
   unfolding from
   fits n some h = omega (arith, length-drop p b)
+
+-- whether the byte k after p is there
+module _ (b : List ℕ) (p k : ℕ) where
+  pub there-is : (l : ℕ) → l ≡ length (from b k) → ltb p l ≡ isThere b p k
+  unfolding from isThere
+  there-is l e = go (ltb (p + k) (length b)) refl
+    where
+      go : (t : Bool) → ltb (p + k) (length b) ≡ t → ltb p l ≡ ltb (p + k) (length b)
+      go true h = lt-ltb p l (omega (arith, length-drop k b, e, ltb-true (p + k) (length b) h)) ∙ sym h
+      go false h = le-ltb p l (omega (arith, length-drop k b, e, ltb-false (p + k) (length b) h)) ∙ sym h
+
+  module _ (r : Bool) (e : r ≡ isThere b p k) where
+    pub is-inside : r ≡ true → p + k < length b
+    unfolding isThere
+    is-inside h = ltb-true _ _ (sym e ∙ h)
+
+    pub is-outside : r ≡ false → length b ≤ p + k
+    unfolding isThere
+    is-outside h = ltb-false _ _ (sym e ∙ h)
 
 -- what stands there
 module _ (b : List ℕ) (p k : ℕ) where
@@ -76,6 +96,12 @@ module _ (b : List ℕ) (p n : ℕ) where
   skipped : (r : ℕ) → r ≡ onward b p n → Skipped b p n r
   skipped r e = record { place = e; is = rw e from-onward }
 
+  pub skip-over : length b ≤ p + n → Skipped b p n (length b)
+  skip-over h = skipped (length b) (omega arith)
+
+  pub skip-to : p + n ≤ length b → Skipped b p n (p + n)
+  skip-to h = skipped (p + n) (omega arith)
+
   pub skip-all : (l : ℕ) → l ≡ length (from b p) → l ≤ n → Skipped b p n (length b)
   unfolding from
   skip-all l e h = skipped (length b) (omega (arith, length-drop p b))
@@ -90,6 +116,20 @@ from-zero b = refl
 
 pub count-is : (b : List ℕ) (n : ℕ) → n ≡ pair (from b 0) 5 → n ≡ typeCount b
 count-is b n e = rw (from-zero b) at e
+
+-- the place past a member
+module _ (b : List ℕ) (p n : ℕ) (e : n ≡ byte (from b p) 8) where
+  pub past-on : (q : ℕ) → q ≡ p + 9 + 4 * n → q < length b → Skipped b p (9 + 4 * byte (from b p) 8) q
+  past-on q f h =
+      let g : p + (9 + 4 * byte (from b p) 8) ≡ q = omega (arith, e, f) in
+      rw (← g) (skip-to b p (9 + 4 * byte (from b p) 8) (omega (arith, e, f, h)))
+
+  pub past-end : (q : ℕ) → q ≡ p + 9 + 4 * n → length b ≤ q → Skipped b p (9 + 4 * byte (from b p) 8) (length b)
+  past-end q f h = skip-over b p (9 + 4 * byte (from b p) 8) (omega (arith, e, f, h))
+
+-- .. where its own bytes are not there
+pub past-none : (b : List ℕ) (p : ℕ) (r : Bool) → r ≡ isThere b p 8 → r ≡ false → Skipped b p (9 + 4 * byte (from b p) 8) (length b)
+past-none b p r e h = skip-over b p (9 + 4 * byte (from b p) 8) (omega (arith, is-outside b p 8 r e h))
 
 -- labels
 pub length-labels : (s : List ℕ) (k n : ℕ) → length (labelsOf s k n) ≡ n
@@ -118,6 +158,18 @@ label-here s n i e h = labels-at s 9 (byte s 8) i (omega (arith, length-labels s
 pub label-none : (s : List ℕ) (n i : ℕ) → n ≡ length (memberOf s .labels) → n ≤ i → pos 0 ≡ getD (memberOf s .labels) i (pos 0)
 label-none s n i e h = sym (List·getD-eq-default (memberOf s .labels) (pos 0) (omega arith))
 
+-- what is asked of every member
+abbrev pub head : ℕ → ℕ → Bool → Head
+head i t o = record { id = i; ty = t; optional = o }
+
+pub head-is : (s : List ℕ) (i t : ℕ) (o : Bool) → i ≡ quad s 0 → t ≡ pair s 4 → o ≡ optional (memberOf s) → HeadOf (memberOf s) (head i t o)
+unfolding memberOf
+head-is s i t o e f g = record { id = e; type = f; option = g }
+
+pub optional-is : (s : List ℕ) (n : ℕ) → n ≡ byte s 6 → eqb (n % 2) 1 ≡ optional (memberOf s)
+unfolding memberOf optional
+optional-is s n e = rw e
+
 -- members
 pub length-members : (n : ℕ) (s : List ℕ) → length (membersOf n s) ≡ n
 unfolding membersOf
@@ -131,20 +183,21 @@ member-count-is s r e = e ∙ sym (length-members (pair s 12) (drop 14 s))
 abbrev pub run : ℕ → ℕ → Run
 run p n = record { at = p; left = n }
 
-pub run-start : (b : List ℕ) (at p n : ℕ) → Skipped b at 14 p → n ≡ pair (from b at) 12 → n < 65536 → Started b at (run p n)
+run-start : (b : List ℕ) (at p n : ℕ) → Skipped b at 14 p → n ≡ pair (from b at) 12 → n < 65536 → Started b at (run p n)
 unfolding listed typeOf
 run-start b at p n s f h = record { place = s .place; left = f; small = h; bytes = s .is; is = rw (s .is, f) }
 
-module _ (b : List ℕ) (ms : Run) (n q : ℕ) (e : n ≡ byte (from b (ms .at)) 8) (s : Skipped b (ms .at) (9 + 4 * n) q) where
+module _ (b : List ℕ) (at n : ℕ) (f : n ≡ pair (from b at) 12) (h : n < 65536) (r : Bool) (e : r ≡ isThere b at 13) where
+  pub start-there : r ≡ true → Started b at (run (at + 14) n)
+  start-there y = run-start b at (at + 14) n (skip-to b at 14 (omega (arith, is-inside b at 13 r e y))) f h
+
+  pub start-cut : r ≡ false → Started b at (run (length b) n)
+  start-cut y = run-start b at (length b) n (skip-over b at 14 (omega (arith, is-outside b at 13 r e y))) f h
+
+module _ (b : List ℕ) (ms : Run) (q : ℕ) (s : Skipped b (ms .at) (9 + 4 * byte (from b (ms .at)) 8) q) where
   next : (l : ℕ) → l ≡ ms .left - 1 → After b ms (run q l)
   unfolding listed later pastMember
-  next l f =
-      record {
-        place = s .place ∙ ap (λ (x : ℕ). onward b (ms .at) (9 + 4 * x)) e;
-        left = f;
-        bytes = s .is ∙ ap (λ (x : ℕ). drop (9 + 4 * x) (from b (ms .at))) e;
-        is = rw (s .is, e, f);
-      }
+  next l f = record { place = s .place; left = f; bytes = s .is; is = rw (s .is, f) }
 
   pub run-next : After b ms (run q (ms .left - 1))
   run-next = next (ms .left - 1) refl

@@ -1,14 +1,21 @@
 -- Where the code stands in a book's bytes, and what stands there.
 use Prim.Native.Nat.{ℕ, zero, suc, _+_, _-_, _*_, _<_, _≤_, min}
 use mathlib.Core.Path.{_≡_}
+use mathlib.Core.Bool.{Bool}
 use mathlib.Core.List.{List, [], _∷_, _++_}
+use lib.Dec.{ltb}
 use lib.ListN.{length, getD, drop}
-use Rattle.book.specs.Types.{Member, BookType, byte, pair, quad, memberOf, pastMember, membersOf, typeOf, typeCount, typeNo}
+use Rattle.book.specs.Types.{Member, BookType, byte, pair, quad, memberOf, pastMember, membersOf, typeOf, typeCount, typeNo, optional}
 use Rattle.book.specs.declared.member.Run.{Run}
+use Rattle.book.specs.declared.member.Head.{Head}
 
 -- the bytes from p on
 unfoldable pub from : List ℕ → ℕ → List ℕ
 from b p = drop p b
+
+-- the byte k bytes after p is there
+unfoldable pub isThere : List ℕ → ℕ → ℕ → Bool
+isThere b p k = ltb (p + k) (length b)
 
 -- a record's own bytes that have an extensibility, and no base, bound or element
 pub record Bare (s : List ℕ) : Type 0 where
@@ -18,6 +25,12 @@ pub record Bare (s : List ℕ) : Type 0 where
 
 abbrev pub memberAt : List ℕ → ℕ → Member
 memberAt b p = memberOf (from b p)
+
+-- what is asked of every member that is read in turn
+pub record HeadOf (m : Member) (r : Head) : Type 0 where
+  pub id : r .id ≡ m .id
+  pub type : r .ty ≡ m .type
+  pub option : r .optional ≡ optional m
 
 abbrev pub typeAt : List ℕ → ℕ → BookType
 typeAt b p = typeOf (from b p)

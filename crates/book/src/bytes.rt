@@ -3,7 +3,7 @@ ghost use mathlib.Core.Path.{_≡_};
 ghost use Prim.Native.Nat.{_+_, _<_, _≤_, _^_};
 ghost use lib.ListN.{length};
 ghost use Rattle.book.specs.Types.{byte, pair, quad};
-ghost use Rattle.book.specs.Places.{from, Skipped};
+ghost use Rattle.book.specs.Places.{from, isThere, Skipped};
 
 // How many bytes are left at p.
 pub fn left_at(b: &[u8], p: usize) -> usize
@@ -13,6 +13,13 @@ pub fn left_at(b: &[u8], p: usize) -> usize
         return b.len() - p;
     }
     0
+}
+
+// Whether the byte k bytes after p is there. Where k is known, a loop asks it with one test.
+pub fn is_there(b: &[u8], p: usize, k: usize) -> bool
+    ensures { λ r. ⌜ r ≡ isThere (now (b .entry)) p k ⌝ }
+{
+    p < left_at(b, k)
 }
 
 // The byte k bytes after p, which is there.

@@ -1,14 +1,17 @@
 // The members of a type: a run of them, and the fields of the one at a place.
 ghost use mathlib.Core.Path.{_≡_};
-ghost use Prim.Native.Nat.{_<_};
+ghost use Prim.Native.Nat.{_+_, _*_, _<_};
 ghost use lib.ListN.{length, getD};
 ghost use lib.IntN.{pos};
-ghost use Rattle.book.specs.Types.{optional, default};
-ghost use Rattle.book.specs.Places.{memberAt, typeAt, Started, After};
+ghost use Rattle.book.specs.Types.{byte, optional, default};
+ghost use Rattle.book.specs.Places.{from, memberAt, typeAt, HeadOf, Skipped, Started, After};
 use crate::bytes::byte_at;
+use crate::bytes::byte_there;
+use crate::bytes::is_there;
 use crate::bytes::pair_at;
+use crate::bytes::pair_there;
 use crate::bytes::quad_at;
-use crate::bytes::skip;
+use crate::bytes::quad_there;
 
 // Members still to come: where the next stands, and how many are left.
 pub struct Run {
@@ -27,10 +30,30 @@ pub fn member_count(b: &[u8], at: usize) -> usize
 pub fn members(b: &[u8], at: usize) -> Run
     ensures { λ r. ⌜ Started (now (b .entry)) at r ⌝ }
 {
+    if is_there(b, at, 13) {
+        return Run {
+            at: at + 14,
+            left: pair_there(b, at, 12),
+        };
+    }
     Run {
-        at: skip(b, at, 14),
+        at: b.len(),
         left: pair_at(b, at, 12),
     }
+}
+
+// The place past the member at p, no further than the end.
+fn past(b: &[u8], p: usize) -> usize
+    ensures { λ r. ⌜ Skipped (now (b .entry)) p (9 + 4 * byte (from (now (b .entry)) p) 8) r ⌝ }
+{
+    let end = b.len();
+    if is_there(b, p, 8) {
+        let q = p + 9 + 4 * byte_there(b, p, 8);
+        if q < end {
+            return q;
+        }
+    }
+    end
 }
 
 // Those after the next.
@@ -39,7 +62,7 @@ pub fn after(b: &[u8], ms: Run) -> Run
 {
     let p = ms.at;
     let left = ms.left;
-    let q = skip(b, p, 9 + 4 * byte_at(b, p, 8));
+    let q = past(b, p);
     if left == 0 {
         return Run { at: q, left: 0 };
     }
@@ -49,15 +72,54 @@ pub fn after(b: &[u8], ms: Run) -> Run
     }
 }
 
+// What is asked of every member that is read in turn.
+pub struct Head {
+    pub id: u32,
+    pub ty: usize,
+    pub optional: bool,
+}
+
+// The head of the member at p, whose 9 bytes before its labels are there.
+pub fn head_there(b: &[u8], p: usize) -> Head
+    requires { ⌜ p + 8 < length (now b) ⌝ }
+    ensures { λ r. ⌜ HeadOf (memberAt (now (b .entry)) p) r ⌝ }
+{
+    Head {
+        id: quad_there(b, p, 0),
+        ty: pair_there(b, p, 4),
+        optional: byte_there(b, p, 6) % 2 == 1,
+    }
+}
+
+// The head of the member at p. That its bytes are there is asked once for all of them.
+pub fn head_at(b: &[u8], p: usize) -> Head
+    ensures { λ r. ⌜ HeadOf (memberAt (now (b .entry)) p) r ⌝ }
+{
+    if is_there(b, p, 8) {
+        return head_there(b, p);
+    }
+    Head {
+        id: quad_at(b, p, 0),
+        ty: pair_at(b, p, 4),
+        optional: is_optional(b, p),
+    }
+}
+
 pub fn id(b: &[u8], p: usize) -> u32
     ensures { λ r. ⌜ r ≡ memberAt (now (b .entry)) p .id ⌝ }
 {
+    if is_there(b, p, 8) {
+        return quad_there(b, p, 0);
+    }
     quad_at(b, p, 0)
 }
 
 pub fn type_index(b: &[u8], p: usize) -> usize
     ensures { λ r. ⌜ (r ≡ memberAt (now (b .entry)) p .type) × (r < 65536) ⌝ }
 {
+    if is_there(b, p, 8) {
+        return pair_there(b, p, 4);
+    }
     pair_at(b, p, 4)
 }
 

@@ -15,8 +15,8 @@ use Rattle.wire.specs.declared.settings.Version.the-variants.{Xcdr1, Xcdr2}
 use Rattle.kinds.specs.declared.Entry.{Entry}
 use Rattle.kinds.specs.Kinds.{elementSizeOf, entryOf, isPrimitive, bitmaskStored}
 use Rattle.kinds.proofs.Table.{element-some}
-use Rattle.book.specs.Types.{BookType, Member, bounded, typeNo}
-use Rattle.book.specs.Places.{typeAt, typesBy, PlaceOf}
+use Rattle.book.specs.Types.{BookType, Member, byte, quad, typeOf, bounded, typeNo}
+use Rattle.book.specs.Places.{from, typeAt, typesBy, PlaceOf}
 use Rattle.values.specs.Header.{afterDheader}
 use Rattle.reader.specs.Value.{isSequence, primitiveElement, readAs}
 use Rattle.reader.specs.Member.{byLength, elementCount}
@@ -46,6 +46,24 @@ module _ (t : BookType) (k : ℕ) (is : k ≡ t .kind) where
   pub read-other : (k ≡ 19 → ⊥) → k ≡ readAs t
   unfolding readAs
   read-other h = rw (← is, ne-eqb k 19 h)
+
+-- a type's own bytes
+module _ (b : List ℕ) (at n : ℕ) where
+  pub kind-there : n ≡ byte (from b at) 2 → n ≡ typeAt b at .kind
+  unfolding typeOf
+  kind-there e = e
+
+  pub extensibility-there : n ≡ byte (from b at) 3 → n ≡ typeAt b at .extensibility
+  unfolding typeOf
+  extensibility-there e = e
+
+  pub bounded-there : n ≡ byte (from b at) 5 → eqb n 1 ≡ bounded (typeAt b at)
+  unfolding typeOf bounded
+  bounded-there e = rw e
+
+  pub bound-there : n ≡ quad (from b at) 6 → n ≡ typeAt b at .bound
+  unfolding typeOf
+  bound-there e = e
 
 -- the element's kind, by the place of its type
 module _ (b index : List ℕ) (t : BookType) (ty q k : ℕ) (element : ty ≡ t .element) (at : PlaceOf b index ty q) (kind : k ≡ typeAt b q .kind) where
@@ -87,11 +105,11 @@ unfolding isStructure
 structure-not true t k e f = rw (ne-eqb (t .kind) 22 (λ g. f (e ∙ g)))
 structure-not false t k e f = rw (ne-eqb (t .kind) 22 (λ g. f (e ∙ g)))
 
-module _ (t : BookType) (k : ℕ) (e : k ≡ t .kind) (f : k ≡ 22) (y : Bool) (g : y ≡ isMutable t) where
-  pub structure-final : not y ≡ isStructure false t
-  unfolding isStructure
-  structure-final = rw (eq-eqb (t .kind) 22 (sym e ∙ f), g)
+module _ (z : Bool) (t : BookType) (k x : ℕ) (e : k ≡ t .kind) (g : x ≡ t .extensibility) (f : k ≡ 22) where
+  pub structure-mutable : z ≡ true → eqb x 2 ≡ isStructure z t
+  unfolding isStructure isMutable
+  structure-mutable h = rw (h, eq-eqb (t .kind) 22 (sym e ∙ f), g)
 
-  pub structure-mutable : y ≡ isStructure true t
-  unfolding isStructure
-  structure-mutable = rw (eq-eqb (t .kind) 22 (sym e ∙ f)) g
+  pub structure-final : z ≡ false → not (eqb x 2) ≡ isStructure z t
+  unfolding isStructure isMutable
+  structure-final h = rw (h, eq-eqb (t .kind) 22 (sym e ∙ f), g)

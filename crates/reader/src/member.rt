@@ -10,8 +10,8 @@ use crate::types::is_final_structure;
 use crate::value::elements;
 use crate::value::value;
 use book::index::place;
+use book::member::head_at;
 use book::member::id;
-use book::member::is_optional;
 use book::member::type_index;
 use book::types::element;
 use lookup::member::Located;
@@ -37,12 +37,13 @@ pub fn fmember(
 ) -> Out
     ensures { λ r. ⌜ Done (fmemberIn (now (book .entry)) (now (index .entry)) (now (s .entry)) set depth (memberAt (now (book .entry)) p) c (room (now (t .entry)) n)) n (now (t .entry)) (now (t .exit)) r ⌝ }
 {
-    if is_optional(book, p) {
+    let m = head_at(book, p);
+    if m.optional {
         return option(book, index, s, set, t, p, c, n, depth);
     }
-    let ty = type_index(book, p);
+    let ty = m.ty;
     let at = place(book, index, ty);
-    let i = id(book, p) as u64;
+    let i = m.id as u64;
     if is_final_structure(book, at) {
         if 0 < depth {
             return fstruct(book, index, s, set, t, at, ty, i, 1, c, n, depth - 1);

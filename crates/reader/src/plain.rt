@@ -7,12 +7,10 @@ ghost use Rattle.reader.specs.Member.{fmemberOf, foundOf};
 ghost use Prim.Native.Nat.{ℕ};
 ghost use mathlib.Core.Path.{_≡_};
 ghost use Rattle.lookup.specs.Ahead.{HeadOrEnd, Sought};
-use crate::types::read_as;
-use book::bytes::left_at;
+use crate::types::read_as_there;
+use book::bytes::is_there;
 use book::index::place;
-use book::member::id;
-use book::member::is_optional;
-use book::member::type_index;
+use book::member::head_there;
 use lookup::ahead::Ahead;
 use lookup::ahead::Hint;
 use lookup::ahead::none;
@@ -21,8 +19,7 @@ use wire::cursor::Cursor;
 use wire::settings::Settings;
 
 // Takes the member at p where it is such, and tells the position after it; or 0, and nothing is done. It opens nothing, so how values
-// are opened makes no difference. That a member's 9 bytes before its labels are there, and a type's 10 up to its bound, is asked once for the
-// compiler, which then leaves it out for each of them.
+// are opened makes no difference. That a member's 9 bytes before its labels are there, and a type's 14 before its members, is asked once, and then of none of them.
 pub fn take(
     book: &[u8],
     index: &[u32],
@@ -35,22 +32,23 @@ pub fn take(
 ) -> usize
     ensures { λ r. ⌜ ((nest : Nest) → Quickly (fmemberOf (typesBy (now (book .entry)) (now (index .entry))) (now (s .entry)) set nest (memberAt (now (book .entry)) p) c (room (now (t .entry)) n)) 1 n (c .origin) (now (t .entry)) (now (t .exit)) r) ⌝ }
 {
-    if left_at(book, p) < 9 {
+    if !is_there(book, p, 8) {
         return 0;
     }
-    if is_optional(book, p) {
+    let m = head_there(book, p);
+    if m.optional {
         return 0;
     }
-    let ty = type_index(book, p);
+    let ty = m.ty;
     if index.len() <= ty {
         return 0;
     }
     let at = place(book, index, ty);
-    if left_at(book, at) < 10 {
+    if !is_there(book, at, 13) {
         return 0;
     }
-    let kind = read_as(book, at);
-    values::quick::take(s, set, t, kind, id(book, p) as u64, c, n)
+    let kind = read_as_there(book, at);
+    values::quick::take(s, set, t, kind, m.id as u64, c, n)
 }
 
 // The same for a member that was found, whose id is known.
@@ -68,18 +66,19 @@ pub fn take_found(
     requires { ⌜ i ≡ memberAt (now book) p .id ⌝ }
     ensures { λ r. ⌜ ((nest : Nest) (length : ℕ) → Quickly (foundOf (typesBy (now (book .entry)) (now (index .entry))) (now (s .entry)) set nest (memberAt (now (book .entry)) p) length c (room (now (t .entry)) n)) 1 n (c .origin) (now (t .entry)) (now (t .exit)) r) ⌝ }
 {
-    if left_at(book, p) < 9 {
+    if !is_there(book, p, 8) {
         return 0;
     }
-    let ty = type_index(book, p);
+    let m = head_there(book, p);
+    let ty = m.ty;
     if index.len() <= ty {
         return 0;
     }
     let at = place(book, index, ty);
-    if left_at(book, at) < 10 {
+    if !is_there(book, at, 13) {
         return 0;
     }
-    let kind = read_as(book, at);
+    let kind = read_as_there(book, at);
     values::quick::take_found(s, set, t, kind, i, c, n)
 }
 
@@ -88,8 +87,9 @@ pub fn ahead(book: &[u8], s: &[u8], set: Settings, p: usize, h: Hint, origin: us
     requires { ⌜ HeadOrEnd (now s) (h .next) origin ⌝ }
     ensures { λ r. ⌜ Sought (now (s .entry)) set (memberAt (now (book .entry)) p .id) h origin r ⌝ }
 {
-    if left_at(book, p) < 9 {
+    if !is_there(book, p, 8) {
         return none();
     }
-    sought(s, set, id(book, p), h, origin)
+    let m = head_there(book, p);
+    sought(s, set, m.id, h, origin)
 }

@@ -9,10 +9,14 @@ ghost use Rattle.reader.specs.Several.{isStructure, alignedFor, begunBy,
 ghost use mathlib.Core.Bool.{true, false};
 ghost use Rattle.table.specs.Outcome.{Done};
 ghost use mathlib.Core.List.{List};
-ghost use Prim.Native.Nat.{ℕ};
+ghost use Prim.Native.Nat.{ℕ, _+_, _<_};
+ghost use lib.ListN.{length};
+ghost use Rattle.book.specs.Types.{BookType};
 ghost use Rattle.lookup.specs.Ahead.{Led};
 ghost use Rattle.lookup.specs.Dheader.{endingAt};
-use book::bytes::left_at;
+use book::bytes::byte_there;
+use book::bytes::is_there;
+use book::bytes::quad_there;
 use book::index::place;
 use book::member::member_count;
 use book::types::bound;
@@ -25,6 +29,7 @@ use kinds::names::STRUCTURE;
 use lookup::ahead::Hint;
 use lookup::dheader::Ending;
 use lookup::dheader::dheader;
+use lookup::xcdr1::PID_LIST_END;
 use lookup::xcdr1::seek_to_sentinel;
 use table::out::Out;
 use values::header::after_dheader;
@@ -57,34 +62,44 @@ pub fn is_mutable(book: &[u8], at: usize) -> bool
     extensibility(book, at) == 2
 }
 
-fn final_structure_by(book: &[u8], at: usize) -> bool
-    ensures { λ r. ⌜ r ≡ isStructure false (typeAt (now (book .entry)) at) ⌝ }
+// Whether a type of this kind and extensibility is a structure: a Mutable one, or one that is Final or Appendable.
+fn is_structure(kind: u8, extensibility: usize, mutable: bool) -> bool
+    ensures { λ r. ⌜ ((t : BookType) → kind ≡ t .kind → extensibility ≡ t .extensibility → r ≡ isStructure mutable t) ⌝ }
 {
-    if kind_at(book, at) != STRUCTURE {
+    if kind != STRUCTURE {
         return false;
     }
-    !is_mutable(book, at)
+    if mutable {
+        extensibility == 2
+    } else {
+        extensibility != 2
+    }
 }
 
-// Whether the type is a structure, Final or Appendable. That its bytes are there is asked once for the compiler, which then leaves it out for
-// each of them.
+// Whether the type at a place is such. That its own bytes are there is asked once, and then of none of them.
+fn structure_at(book: &[u8], at: usize, mutable: bool) -> bool
+    ensures { λ r. ⌜ r ≡ isStructure mutable (typeAt (now (book .entry)) at) ⌝ }
+{
+    if is_there(book, at, 13) {
+        return is_structure(
+            byte_there(book, at, 2) as u8,
+            byte_there(book, at, 3),
+            mutable,
+        );
+    }
+    is_structure(kind_at(book, at), extensibility(book, at), mutable)
+}
+
 pub fn is_final_structure(book: &[u8], at: usize) -> bool
     ensures { λ r. ⌜ r ≡ isStructure false (typeAt (now (book .entry)) at) ⌝ }
 {
-    if left_at(book, at) < 10 {
-        return final_structure_by(book, at);
-    }
-    final_structure_by(book, at)
+    structure_at(book, at, false)
 }
 
-// Whether it is a Mutable structure.
 pub fn is_mutable_structure(book: &[u8], at: usize) -> bool
     ensures { λ r. ⌜ r ≡ isStructure true (typeAt (now (book .entry)) at) ⌝ }
 {
-    if kind_at(book, at) != STRUCTURE {
-        return false;
-    }
-    is_mutable(book, at)
+    structure_at(book, at, true)
 }
 
 // The kind that a value is read as: a bitmask's by its bound.
@@ -94,6 +109,19 @@ pub fn read_as(book: &[u8], at: usize) -> u8
     let kind = kind_at(book, at);
     if kind == BITMASK {
         return kinds::bitmask_stored(is_bounded(book, at), bound(book, at));
+    }
+    kind
+}
+
+// The same of a type whose own 14 bytes are there.
+pub fn read_as_there(book: &[u8], at: usize) -> u8
+    requires { ⌜ at + 13 < length (now book) ⌝ }
+    ensures { λ r. ⌜ r ≡ readAs (typeAt (now (book .entry)) at) ⌝ }
+{
+    let kind = byte_there(book, at, 2) as u8;
+    if kind == BITMASK {
+        let bounded = byte_there(book, at, 5) == 1;
+        return kinds::bitmask_stored(bounded, quad_there(book, at, 6));
     }
     kind
 }
@@ -184,7 +212,7 @@ pub fn begun(book: &[u8], s: &[u8], set: Settings, at: usize, c: Cursor) -> Endi
 }
 
 // What ends a Mutable structure, after n rows: the marker in XCDR1; in XCDR2 it ends where its DHEADER says, wherever its members were.
-pub fn ended(s: &[u8], set: Settings, end: usize, c: Cursor, n: usize) -> Out
+fn ended(s: &[u8], set: Settings, end: usize, c: Cursor, n: usize) -> Out
     ensures { λ r. ⌜ ((t : List ℕ) → Done (endedBy (now (s .entry)) set (set .version) end c) n t t r) ⌝ }
 {
     let version = set.version;
@@ -206,7 +234,7 @@ pub fn ended_from(s: &[u8], set: Settings, end: usize, c: Cursor, h: Hint, n: us
     match version {
         Version::Xcdr1 => {
             let next = h.next;
-            if 0x3F02 < h.least {
+            if PID_LIST_END < h.least as u64 {
                 return ended(s, set, end, c, n);
             }
             if s.len() - next < 4 {

@@ -35,7 +35,7 @@ closed t =
     lts.spec (E t) (mrun-at t) mrun.Post Inv-loop μ-loop
     (λ c κs. search (needs, mrun-laws))  -- members-requires
     (λ c κs. search (needs, mrun-laws))  -- first-requires
-    (λ c. looked-start _ _ _ _ _ _ _ _ _ _ _ _ (c .before .members .ensures) (c .first .ensures .0) (c .before .before .before .before .before .before .pre .1))  -- loop-holds
+    (λ c. looked-start _ _ _ _ _ _ _ _ _ _ _ _ (c .before .members .ensures) (c .first .ensures) (c .before .before .before .before .before .before .pre .1))  -- loop-holds
     (λ c κs. c .before .before .loop .inv .led .place)  -- ahead-requires
     (λ c κs. search (needs, mrun-laws))  -- id-requires
     (λ c κs. search (needs, mrun-laws))  -- value-at-requires

@@ -1,31 +1,33 @@
 use Rattle.reader.proofs.PlainSteps.{found-none, found-taken}
+use Rattle.book.proofs.Places.{is-inside}
+use borrow.Author.Tests.{not-false}
 use borrow.Author.Needs.{needs}
 use Rattle.reader.proofs.plain.take_found.Statement.{statement}
 use Rattle.reader.proofs.plain.take_found.Tie as tie
 
-left-at-requires : tie.Need-left-at-requires
-left-at-requires c κs = search needs
+is-there-requires : tie.Need-is-there-requires
+is-there-requires c κs = search needs
 
 returns : tie.Need-returns
-returns c = search (needs, found-none, found-taken)
+returns c = search (needs, found-none)
 
-type-index-requires : tie.Need-type-index-requires
-type-index-requires c κs = search needs
+head-there-requires : tie.Need-head-there-requires
+head-there-requires c κs = is-inside _ _ _ _ (c .before .is-there .ensures) (not-false _ (c .if1 .left))
 
 returns-2 : tie.Need-returns-2
-returns-2 c = search (needs, found-none, found-taken)
+returns-2 c = search (needs, found-none)
 
 place-requires : tie.Need-place-requires
 place-requires c κs = search needs
 
-left-at-requires-2 : tie.Need-left-at-requires-2
-left-at-requires-2 c κs = search needs
+is-there-requires-2 : tie.Need-is-there-requires-2
+is-there-requires-2 c κs = search needs
 
 returns-3 : tie.Need-returns-3
-returns-3 c = search (needs, found-none, found-taken)
+returns-3 c = search (needs, found-none)
 
-read-as-requires : tie.Need-read-as-requires
-read-as-requires c κs = search needs
+read-as-there-requires : tie.Need-read-as-there-requires
+read-as-there-requires c κs = is-inside _ _ _ _ (c .before .is-there2 .ensures) (not-false _ (c .if3 .left))
 
 take-found-requires : tie.Need-take-found-requires
 take-found-requires c κs = search needs
@@ -34,20 +36,20 @@ same-length : tie.Need-same-length
 same-length c = search needs
 
 returns-4 : tie.Need-returns-4
-returns-4 c = search (needs, found-none, found-taken)
+returns-4 c = search (needs, found-taken)
 
 pub take-found-spec : {M : Type 1} → statement M
 take-found-spec =
     tie.close
     (tie.spec
-    left-at-requires
+    is-there-requires
     returns
-    type-index-requires
+    head-there-requires
     returns-2
     place-requires
-    left-at-requires-2
+    is-there-requires-2
     returns-3
-    read-as-requires
+    read-as-there-requires
     take-found-requires
     same-length
     returns-4)

@@ -6,6 +6,9 @@ use Rattle.reader.proofs.types.ended_from.Tie as tie
 enum-told : tie.Need-enum-told
 enum-told c = search needs
 
+cast-if1 : tie.Need-cast-if1
+cast-if1 c = search needs
+
 ended-requires : tie.Need-ended-requires
 ended-requires c κs = search needs
 
@@ -44,6 +47,7 @@ ended-from-spec =
     tie.close
     (tie.spec
     enum-told
+    cast-if1
     ended-requires
     returns
     sub-if2
