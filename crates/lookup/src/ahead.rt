@@ -162,7 +162,7 @@ fn from(next: usize) -> Hint
 
 // The hint before any member was found: the start itself, if a header may stand there.
 pub fn first(s: &[u8], back: Cursor) -> Hint
-    ensures { λ r. ⌜ ((set : Settings) → Led (now (s .entry)) set back (back .origin) r) × (r .least ≡ 0) ⌝ }
+    ensures { λ r. ⌜ ((set : Settings) → Led (now (s .entry)) set back (back .origin) r) ⌝ }
 {
     let pos = back.pos;
     let origin = back.origin;

@@ -9,7 +9,7 @@ use wire::cursor::Shortage;
 use wire::number::Number;
 use wire::settings::Settings;
 
-const PID_LIST_END: u64 = 0x3F02;
+pub const PID_LIST_END: u64 = 0x3F02;
 
 enum Header {
     // The id, the length, and the cursor after both.

@@ -63,7 +63,7 @@ fn each(s: &[u8], set: Settings, t: &mut [u64], kind: u8, count: u64, at: Cursor
 }
 
 // The elements: all at once where they are numbers that are there whole, else one by one.
-pub fn elements(
+fn elements(
     s: &[u8],
     set: Settings,
     t: &mut [u64],

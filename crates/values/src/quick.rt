@@ -21,7 +21,7 @@ use wire::settings::ByteOrder;
 use wire::settings::Settings;
 
 // The numbers of up to 8 bytes; a boolean is judged, and CHAR16 is unsupported.
-pub fn is_number(kind: u8) -> bool
+fn is_number(kind: u8) -> bool
     ensures { λ r. ⌜ r ≡ isNumber kind ⌝ }
 {
     (2 <= kind) & (kind <= 14) & !(kind == 11)

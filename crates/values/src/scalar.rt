@@ -22,7 +22,7 @@ use wire::number::Number;
 use wire::settings::Settings;
 
 // The row of a value that was read, if it has a place.
-pub fn give_row(t: &mut [u64], n: usize, c: Cursor, r: Row) -> Out
+fn give_row(t: &mut [u64], n: usize, c: Cursor, r: Row) -> Out
     ensures { λ o. ⌜ Done (rowed (room (now (t .entry)) n) c r) n (now (t .entry)) (now (t .exit)) o ⌝ }
 {
     if is_full(t, n) {
