@@ -100,6 +100,10 @@ module _ (types : List BookType) (s : List ℕ) (set : Settings) (nest : Nest) (
       go true e = let f : eqb (typeNo types ty .kind) 25 ≡ false = ap (λ (x : ℕ). eqb x 25) (eqb→eq (typeNo types ty .kind) 19 (rw e tt)) in rw f
       go false e = let f : eqb (typeNo types ty .kind) 25 ≡ false = ap (λ (x : ℕ). eqb x 25) (sym (own e)) ∙ outside k taken (λ i. eqb i 25) tt in rw f
 
+-- the kind by the place of the type
+pub kind-here : (b index : List ℕ) (ty q k : ℕ) → PlaceOf b index ty q → k ≡ readAs (typeAt b q) → 0 < k → k ≡ readAs (typeNo (typesBy b index) ty)
+kind-here b index ty q k at is h = is ∙ ap readAs (at .is)
+
 -- what the quick way took is the member's
 module _ (b index s : List ℕ) (set : Settings) (p : ℕ) (c : Cursor) (t : List ℕ) (n : ℕ) where
   pub plain-none : (nest : Nest) → Quickly (fmemberOf (typesBy b index) s set nest (memberAt b p) c (room t n)) 1 n (c .origin) t t 0
@@ -108,13 +112,13 @@ module _ (b index s : List ℕ) (set : Settings) (p : ℕ) (c : Cursor) (t : Lis
   pub found-none : (nest : Nest) (length : ℕ) → Quickly (foundOf (typesBy b index) s set nest (memberAt b p) length c (room t n)) 1 n (c .origin) t t 0
   found-none nest length = quick-not _ 1 n (c .origin) t
 
-  module _ (ty q k i : ℕ) (type : ty ≡ memberAt b p .type) (at : PlaceOf b index ty q) (read : k ≡ readAs (typeAt b q)) (named : i ≡ memberAt b p .id)
+  module _ (ty k i : ℕ) (type : ty ≡ memberAt b p .type) (read : 0 < k → k ≡ readAs (typeNo (typesBy b index) ty)) (named : i ≡ memberAt b p .id)
       (u : List ℕ) (r : ℕ) (d : Quickly (scalarOf s set k i c (room t n)) 1 n (c .origin) t u r) (takes : 0 < r → isTaken k ≡ true) where
-    read-as : k ≡ readAs (typeNo (typesBy b index) ty)
-    read-as = read ∙ ap readAs (at .is)
+    read-as : isTaken k ≡ true → k ≡ readAs (typeNo (typesBy b index) ty)
+    read-as y = read (inside-1 k y .0)
 
     value-is : isTaken k ≡ true → (nest : Nest) → valueOf (typesBy b index) s set nest (memberAt b p .type) (memberAt b p .id) c (room t n) ≡ scalarOf s set k i c (room t n)
-    value-is y nest = rw (← type, ← named) (taken-value (typesBy b index) s set nest ty i c (room t n) k y read-as)
+    value-is y nest = rw (← type, ← named) (taken-value (typesBy b index) s set nest ty i c (room t n) k y (read-as y))
 
     pub plain-taken : (o : Bool) → o ≡ optional (memberAt b p) → o ≡ false → (nest : Nest) → Quickly (fmemberOf (typesBy b index) s set nest (memberAt b p) c (room t n)) 1 n (c .origin) t u r
     unfolding fmemberOf fmemberBy
@@ -128,7 +132,7 @@ module _ (b index s : List ℕ) (set : Settings) (p : ℕ) (c : Cursor) (t : Lis
     found-taken nest length = quick-as _ _ 1 n (c .origin) t u r d (λ h. (found-is (takes h)))
       where
         found-is : isTaken k ≡ true → foundOf (typesBy b index) s set nest (memberAt b p) length c (room t n) ≡ scalarOf s set k i c (room t n)
-        found-is y = rw (← type, taken-other (typesBy b index) s set nest ty i c (room t n) k y read-as (set .version)) (rw type (value-is y nest))
+        found-is y = rw (← type, taken-other (typesBy b index) s set nest ty i c (room t n) k y (read-as y) (set .version)) (rw type (value-is y nest))
 
 -- a row that was written has its place
 pub plain-next : (types : List BookType) (s : List ℕ) (set : Settings) (m : Member) (c : Cursor) (t : List ℕ) (n : ℕ) (u : List ℕ) (r : ℕ)

@@ -1,10 +1,11 @@
 // The quick way for a member: most are numbers, booleans or texts, and there whole; and most headers stand where they are looked for first.
+ghost use Rattle.book.specs.Types.{typeNo};
 ghost use Rattle.book.specs.Places.{memberAt, typesBy};
 ghost use Rattle.table.specs.Rows.{room};
 ghost use Rattle.values.specs.Quick.{Quickly};
-ghost use Rattle.reader.specs.Value.{Nest};
+ghost use Rattle.reader.specs.Value.{Nest, readAs};
 ghost use Rattle.reader.specs.Member.{fmemberOf, foundOf};
-ghost use Prim.Native.Nat.{ℕ};
+ghost use Prim.Native.Nat.{ℕ, _<_};
 ghost use mathlib.Core.Path.{_≡_};
 ghost use Rattle.lookup.specs.Ahead.{HeadOrEnd, Sought};
 use crate::types::read_as_there;
@@ -18,8 +19,22 @@ use lookup::ahead::sought;
 use wire::cursor::Cursor;
 use wire::settings::Settings;
 
+// The kind that type number `ty` is read as, if its own 14 bytes are there; or 0, which is not taken.
+fn kind_of(book: &[u8], index: &[u32], ty: usize) -> u8
+    ensures { λ r. ⌜ (0 < r → r ≡ readAs (typeNo (typesBy (now (book .entry)) (now (index .entry))) ty)) ⌝ }
+{
+    if index.len() <= ty {
+        return 0;
+    }
+    let at = place(book, index, ty);
+    if !is_there(book, at, 13) {
+        return 0;
+    }
+    read_as_there(book, at)
+}
+
 // Takes the member at p where it is such, and tells the position after it; or 0, and nothing is done. It opens nothing, so how values
-// are opened makes no difference. That a member's 9 bytes before its labels are there, and a type's 14 before its members, is asked once, and then of none of them.
+// are opened makes no difference. That a member's 9 bytes before its labels are there is asked once, and then of none of them.
 pub fn take(
     book: &[u8],
     index: &[u32],
@@ -39,15 +54,7 @@ pub fn take(
     if m.optional {
         return 0;
     }
-    let ty = m.ty;
-    if index.len() <= ty {
-        return 0;
-    }
-    let at = place(book, index, ty);
-    if !is_there(book, at, 13) {
-        return 0;
-    }
-    let kind = read_as_there(book, at);
+    let kind = kind_of(book, index, m.ty);
     values::quick::take(s, set, t, kind, m.id as u64, c, n)
 }
 
@@ -70,15 +77,7 @@ pub fn take_found(
         return 0;
     }
     let m = head_there(book, p);
-    let ty = m.ty;
-    if index.len() <= ty {
-        return 0;
-    }
-    let at = place(book, index, ty);
-    if !is_there(book, at, 13) {
-        return 0;
-    }
-    let kind = read_as_there(book, at);
+    let kind = kind_of(book, index, m.ty);
     values::quick::take_found(s, set, t, kind, i, c, n)
 }
 

@@ -17,20 +17,8 @@ head-there-requires c κs = is-inside _ _ _ _ (c .before .is-there .ensures) (no
 returns-2 : tie.Need-returns-2
 returns-2 c = search (needs, plain-none)
 
-returns-3 : tie.Need-returns-3
-returns-3 c = search (needs, plain-none)
-
-place-requires : tie.Need-place-requires
-place-requires c κs = search needs
-
-is-there-requires-2 : tie.Need-is-there-requires-2
-is-there-requires-2 c κs = search needs
-
-returns-4 : tie.Need-returns-4
-returns-4 c = search (needs, plain-none)
-
-read-as-there-requires : tie.Need-read-as-there-requires
-read-as-there-requires c κs = is-inside _ _ _ _ (c .before .is-there2 .ensures) (not-false _ (c .if4 .left))
+kind-of-requires : tie.Need-kind-of-requires
+kind-of-requires c κs = search needs
 
 cast-take : tie.Need-cast-take
 cast-take c = search needs
@@ -41,8 +29,8 @@ take-requires c κs = search needs
 same-length : tie.Need-same-length
 same-length c = search needs
 
-returns-5 : tie.Need-returns-5
-returns-5 c = search (needs, plain-taken)
+returns-3 : tie.Need-returns-3
+returns-3 c = search (needs, plain-taken, c .before .before .before .before .before .kind-of .ensures)
 
 pub take-spec : {M : Type 1} → statement M
 take-spec =
@@ -52,12 +40,8 @@ take-spec =
     returns
     head-there-requires
     returns-2
-    returns-3
-    place-requires
-    is-there-requires-2
-    returns-4
-    read-as-there-requires
+    kind-of-requires
     cast-take
     take-requires
     same-length
-    returns-5)
+    returns-3)

@@ -14,20 +14,8 @@ returns c = search (needs, found-none)
 head-there-requires : tie.Need-head-there-requires
 head-there-requires c κs = is-inside _ _ _ _ (c .before .is-there .ensures) (not-false _ (c .if1 .left))
 
-returns-2 : tie.Need-returns-2
-returns-2 c = search (needs, found-none)
-
-place-requires : tie.Need-place-requires
-place-requires c κs = search needs
-
-is-there-requires-2 : tie.Need-is-there-requires-2
-is-there-requires-2 c κs = search needs
-
-returns-3 : tie.Need-returns-3
-returns-3 c = search (needs, found-none)
-
-read-as-there-requires : tie.Need-read-as-there-requires
-read-as-there-requires c κs = is-inside _ _ _ _ (c .before .is-there2 .ensures) (not-false _ (c .if3 .left))
+kind-of-requires : tie.Need-kind-of-requires
+kind-of-requires c κs = search needs
 
 take-found-requires : tie.Need-take-found-requires
 take-found-requires c κs = search needs
@@ -35,8 +23,8 @@ take-found-requires c κs = search needs
 same-length : tie.Need-same-length
 same-length c = search needs
 
-returns-4 : tie.Need-returns-4
-returns-4 c = search (needs, found-taken)
+returns-2 : tie.Need-returns-2
+returns-2 c = search (needs, found-taken, c .before .before .before .before .kind-of .ensures)
 
 pub take-found-spec : {M : Type 1} → statement M
 take-found-spec =
@@ -45,11 +33,7 @@ take-found-spec =
     is-there-requires
     returns
     head-there-requires
-    returns-2
-    place-requires
-    is-there-requires-2
-    returns-3
-    read-as-there-requires
+    kind-of-requires
     take-found-requires
     same-length
-    returns-4)
+    returns-2)
