@@ -13,6 +13,9 @@ use crate::bytes::pair_there;
 use crate::bytes::quad_at;
 use crate::bytes::quad_there;
 
+// A member has 9 bytes before its labels: the last of them.
+pub const LAST: usize = 8;
+
 // Members still to come: where the next stands, and how many are left.
 pub struct Run {
     pub at: usize,
@@ -30,7 +33,7 @@ pub fn member_count(b: &[u8], at: usize) -> usize
 pub fn members(b: &[u8], at: usize) -> Run
     ensures { λ r. ⌜ Started (now (b .entry)) at r ⌝ }
 {
-    if is_there(b, at, 13) {
+    if is_there(b, at, crate::types::LAST) {
         return Run {
             at: at + 14,
             left: pair_there(b, at, 12),
@@ -47,7 +50,7 @@ fn past(b: &[u8], p: usize) -> usize
     ensures { λ r. ⌜ Skipped (now (b .entry)) p (9 + 4 * byte (from (now (b .entry)) p) 8) r ⌝ }
 {
     let end = b.len();
-    if is_there(b, p, 8) {
+    if is_there(b, p, LAST) {
         let q = p + 9 + 4 * byte_there(b, p, 8);
         if q < end {
             return q;
@@ -95,7 +98,7 @@ pub fn head_there(b: &[u8], p: usize) -> Head
 pub fn head_at(b: &[u8], p: usize) -> Head
     ensures { λ r. ⌜ HeadOf (memberAt (now (b .entry)) p) r ⌝ }
 {
-    if is_there(b, p, 8) {
+    if is_there(b, p, LAST) {
         return head_there(b, p);
     }
     Head {
@@ -105,10 +108,11 @@ pub fn head_at(b: &[u8], p: usize) -> Head
     }
 }
 
+// Where its bytes are known to be there, the compiler leaves this question out, as for the type below.
 pub fn id(b: &[u8], p: usize) -> u32
     ensures { λ r. ⌜ r ≡ memberAt (now (b .entry)) p .id ⌝ }
 {
-    if is_there(b, p, 8) {
+    if is_there(b, p, LAST) {
         return quad_there(b, p, 0);
     }
     quad_at(b, p, 0)
@@ -117,7 +121,7 @@ pub fn id(b: &[u8], p: usize) -> u32
 pub fn type_index(b: &[u8], p: usize) -> usize
     ensures { λ r. ⌜ (r ≡ memberAt (now (b .entry)) p .type) × (r < 65536) ⌝ }
 {
-    if is_there(b, p, 8) {
+    if is_there(b, p, LAST) {
         return pair_there(b, p, 4);
     }
     pair_at(b, p, 4)

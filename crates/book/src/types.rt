@@ -7,6 +7,9 @@ use crate::bytes::byte_at;
 use crate::bytes::pair_at;
 use crate::bytes::quad_at;
 
+// A type has 14 bytes before its members: the last of them.
+pub const LAST: usize = 13;
+
 // The kinds that rules of a book name.
 pub const BITMASK: usize = 19;
 

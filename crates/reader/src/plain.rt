@@ -27,7 +27,7 @@ fn kind_of(book: &[u8], index: &[u32], ty: usize) -> u8
         return 0;
     }
     let at = place(book, index, ty);
-    if !is_there(book, at, 13) {
+    if !is_there(book, at, book::types::LAST) {
         return 0;
     }
     read_as_there(book, at)
@@ -47,7 +47,7 @@ pub fn take(
 ) -> usize
     ensures { λ r. ⌜ ((nest : Nest) → Quickly (fmemberOf (typesBy (now (book .entry)) (now (index .entry))) (now (s .entry)) set nest (memberAt (now (book .entry)) p) c (room (now (t .entry)) n)) 1 n (c .origin) (now (t .entry)) (now (t .exit)) r) ⌝ }
 {
-    if !is_there(book, p, 8) {
+    if !is_there(book, p, book::member::LAST) {
         return 0;
     }
     let m = head_there(book, p);
@@ -73,7 +73,7 @@ pub fn take_found(
     requires { ⌜ i ≡ memberAt (now book) p .id ⌝ }
     ensures { λ r. ⌜ ((nest : Nest) (length : ℕ) → Quickly (foundOf (typesBy (now (book .entry)) (now (index .entry))) (now (s .entry)) set nest (memberAt (now (book .entry)) p) length c (room (now (t .entry)) n)) 1 n (c .origin) (now (t .entry)) (now (t .exit)) r) ⌝ }
 {
-    if !is_there(book, p, 8) {
+    if !is_there(book, p, book::member::LAST) {
         return 0;
     }
     let m = head_there(book, p);
@@ -86,7 +86,7 @@ pub fn ahead(book: &[u8], s: &[u8], set: Settings, p: usize, h: Hint, origin: us
     requires { ⌜ HeadOrEnd (now s) (h .next) origin ⌝ }
     ensures { λ r. ⌜ Sought (now (s .entry)) set (memberAt (now (book .entry)) p .id) h origin r ⌝ }
 {
-    if !is_there(book, p, 8) {
+    if !is_there(book, p, book::member::LAST) {
         return none();
     }
     let m = head_there(book, p);

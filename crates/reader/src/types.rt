@@ -80,7 +80,7 @@ fn is_structure(kind: u8, extensibility: usize, mutable: bool) -> bool
 fn structure_at(book: &[u8], at: usize, mutable: bool) -> bool
     ensures { λ r. ⌜ r ≡ isStructure mutable (typeAt (now (book .entry)) at) ⌝ }
 {
-    if is_there(book, at, 13) {
+    if is_there(book, at, book::types::LAST) {
         return is_structure(
             byte_there(book, at, 2) as u8,
             byte_there(book, at, 3),
