@@ -3,10 +3,8 @@ ghost use Rattle.book.specs.Places.{memberAt};
 ghost use Rattle.table.specs.Rows.{room};
 ghost use Rattle.table.specs.Outcome.{Done};
 ghost use Rattle.reader.specs.Cycle.{foundIn, mmemberIn, optionalIn, fmemberIn};
-use crate::fstruct;
 use crate::types::by_length;
 use crate::types::element_count;
-use crate::types::is_final_structure;
 use crate::value::elements;
 use crate::value::value;
 use book::index::place;
@@ -41,15 +39,7 @@ pub fn fmember(
     if m.optional {
         return option(book, index, s, set, t, p, c, n, depth);
     }
-    let ty = m.ty;
-    let at = place(book, index, ty);
-    let i = m.id as u64;
-    if is_final_structure(book, at) {
-        if 0 < depth {
-            return fstruct(book, index, s, set, t, at, ty, i, 1, c, n, depth - 1);
-        }
-    }
-    value(book, index, s, set, t, ty, i, c, n, depth)
+    value(book, index, s, set, t, m.ty, m.id as u64, c, n, depth)
 }
 
 // Serialization rules 19 and 20: an optional member of a Final or Appendable type. XCDR1 looks it up, XCDR2 asks a boolean.

@@ -19,22 +19,17 @@ use Rattle.lookup.specs.declared.search.Seek.the-variants.{Found}
 use Rattle.lookup.specs.declared.search.Turn.the-variants.{On}
 use Rattle.lookup.specs.declared.ahead.Ahead.{Ahead}
 use Rattle.lookup.specs.declared.ahead.Hint.{Hint}
-use Rattle.lookup.specs.Member.{locate}
+use Rattle.lookup.specs.Member.{askedFor, locate}
 use Rattle.lookup.specs.declared.member.Located.the-variants as located
 
 -- the version's own search
-unfoldable pub searched : List ℕ → Settings → Version → ℕ → Cursor → Seek
-searched s set Xcdr1 id c = xcdr1.seekToPid s set id c
-searched s set Xcdr2 id c = xcdr2.seekToPid s set id c
-
--- the id that a version's headers are asked for: XCDR1 cuts it to 16 bits
-unfoldable pub askedFor : Version → ℕ → ℕ
-askedFor Xcdr1 id = id % 2 ^ 16
-askedFor Xcdr2 id = id
+unfoldable pub searchBy : List ℕ → Settings → Version → ℕ → Cursor → Seek
+searchBy s set Xcdr1 id c = xcdr1.seekToPid s set id c
+searchBy s set Xcdr2 id c = xcdr2.seekToPid s set id c
 
 -- a search from the one place is a search from the other, for every id that headers are asked for as `least` or more
 unfoldable pub Leads : List ℕ → Settings → Cursor → Cursor → ℕ → Type 0
-Leads s set from to least = (id : ℕ) → least ≤ askedFor (set .version) id → searched s set (set .version) id from ≡ searched s set (set .version) id to
+Leads s set from to least = (id : ℕ) → least ≤ askedFor (set .version) id → searchBy s set (set .version) id from ≡ searchBy s set (set .version) id to
 
 -- where a header may stand with no padding before it, and its four bytes are there
 pub record HeadAt (s : List ℕ) (pos origin : ℕ) : Type 0 where
@@ -64,7 +59,7 @@ pub record HeaderId (version : Version) (id : ℕ) : Type 0 where
 unfoldable pub AheadAt : List ℕ → Settings → ℕ → Cursor → ℕ → ℕ → ℕ → Type 0
 AheadAt s set id at n next zero = Unit {0}
 AheadAt s set id at n next (suc v) =
-    (searched s set (set .version) id at ≡ Found n (cursorAt (suc v) (at .origin))) × (0 < n) × HeaderId (set .version) id × NextIs s set id at next
+    (searchBy s set (set .version) id at ≡ Found n (cursorAt (suc v) (at .origin))) × (0 < n) × HeaderId (set .version) id × NextIs s set id at next
 
 unfoldable pub AheadIs : List ℕ → Settings → ℕ → Cursor → Ahead → Type 0
 AheadIs s set id at r = AheadAt s set id at (r .length) (r .next) (r .value)
@@ -86,20 +81,20 @@ unfoldable pub PassedTo : List ℕ → Cursor → ℕ → ℕ → Type 0
 PassedTo s c n q = HeadOrEnd s q (c .origin) × (q + 4 ≤ length s → (set : Settings) → pastValue s set c n ≡ On (cursorAt q (c .origin)))
 
 -- a hint is true: for the ids from its `least` on a search from the structure's start is one from where it says, if a header stands there
-pub record Led (s : List ℕ) (set : Settings) (back : Cursor) (origin : ℕ) (h : Hint) : Type 0 where
+pub record TrueHint (s : List ℕ) (set : Settings) (back : Cursor) (origin : ℕ) (h : Hint) : Type 0 where
   pub place : HeadOrEnd s (h .next) origin
   pub leads : h .next + 4 ≤ length s → Leads s set back (cursorAt (h .next) origin) (h .least)
 
 -- the hint before any member was found, and after one that was
-abbrev pub hintFrom : ℕ → Hint
-hintFrom next = record { next = next; least = 0 }
+abbrev pub hintAt : ℕ → Hint
+hintAt next = record { next = next; least = 0 }
 
-abbrev pub ledOn : Ahead → ℕ → Hint
-ledOn a id = record { next = a .next; least = id + 1 }
+abbrev pub hintAfter : Ahead → ℕ → Hint
+hintAfter a id = record { next = a .next; least = id + 1 }
 
 -- what the header where a hint says tells: a value's place of 0 tells nothing; else the id has 28 bits at most, and where the hint is true, the
 -- lookup finds the member there, and the hint after it is true too
-pub record Sought (s : List ℕ) (set : Settings) (id : ℕ) (h : Hint) (origin : ℕ) (r : Ahead) : Type 0 where
+pub record HeaderAhead (s : List ℕ) (set : Settings) (id : ℕ) (h : Hint) (origin : ℕ) (r : Ahead) : Type 0 where
   pub small : 0 < r .value → id < 2 ^ 28
-  pub found : (back : Cursor) → alignTo s (set .version) back 4 ≡ place.At back → Led s set back origin h → 0 < r .value → locate s set id back ≡ located.Found (r .length) (valueAt (set .version) (r .value) origin) back
-  pub on : (back : Cursor) → Led s set back origin h → 0 < r .value → Led s set back origin (ledOn r id)
+  pub found : (back : Cursor) → alignTo s (set .version) back 4 ≡ place.At back → TrueHint s set back origin h → 0 < r .value → locate s set id back ≡ located.Found (r .length) (valueAt (set .version) (r .value) origin) back
+  pub on : (back : Cursor) → TrueHint s set back origin h → 0 < r .value → TrueHint s set back origin (hintAfter r id)
