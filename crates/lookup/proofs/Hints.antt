@@ -1,10 +1,14 @@
 -- Laws of the hint: when it is true, what the header there tells, and that the end marker may be looked for from there. Assumes nothing.
 use Prim.Native.Nat.{ℕ, suc, _+_, _-_, _%_, _≤_, _<_}
-use mathlib.Core.Path.{_≡_, sym, ap, _∙_}
+use mathlib.Core.Path.{_≡_, refl, sym, ap, _∙_}
+use mathlib.Core.Bool.{Bool, true, false, not}
 use mathlib.Core.List.{List}
 use lib.ListN.{length}
 use native.Mathlib.Omega.{arith}
-use Rattle.wire.specs.Place.{cursorAt, alignTo}
+use native.Mathlib.Nat.{add-zero}
+use Rattle.wire.specs.Place.{cursorAt, paddingOf, alignTo}
+use Rattle.wire.specs.declared.cursor.Shortage.{Shortage}
+use Rattle.wire.proofs.Moves.{seek-at, alignment-four}
 use Rattle.wire.specs.declared.cursor.Cursor.{Cursor}
 use Rattle.wire.specs.declared.cursor.Place.{Place}
 use Rattle.wire.specs.declared.cursor.Place.the-variants as place
@@ -15,7 +19,8 @@ use Rattle.lookup.specs.Member.{locate}
 use Rattle.lookup.specs.declared.member.Located.the-variants as located
 use Rattle.lookup.specs.declared.ahead.Ahead.{Ahead}
 use Rattle.lookup.specs.declared.ahead.Hint.{Hint}
-use Rattle.lookup.specs.Code.Ahead.{AheadIs, aheadOf, valueAt, HeadAt, HeadOrEnd, TrueHint, hintAt, hintAfter, HeaderAhead}
+use Rattle.lookup.specs.declared.ahead.Start.the-variants as start
+use Rattle.lookup.specs.Code.Ahead.{AheadIs, aheadOf, valueAt, HeadAt, HeadOrEnd, firstLookup, StartIs, TrueHint, hintAt, hintAfter, HeaderAhead}
 use Rattle.lookup.proofs.Aheads.{lead-refl, ahead-located, ahead-small, ahead-next, ahead-place, lead-sentinel}
 
 -- nothing is known at first but the start itself, and at the data's end nothing at all
@@ -60,3 +65,43 @@ pub hinted-sentinel : (s : List ℕ) (set : Settings) (back : Cursor) (h : Hint)
 hinted-sentinel s set back h hint v l left d e r is =
     let i = hint .place .inside in
     is ∙ ap (seekToSentinel s set) e ∙ sym (lead-sentinel s set back (cursorAt (h .next) (back .origin)) (h .least) v (hint .leads (omega arith)) l)
+
+-- where the lookups begin
+module _ (s : List ℕ) (set : Settings) (f : Bool) (c : Cursor) where
+  already : c .pos ≤ length s → (c .pos - c .origin) % 4 ≡ 0 → alignTo s (set .version) c 4 ≡ place.At c
+  unfolding alignTo paddingOf
+  already i a = rw (alignment-four (set .version), a) (sym (seek-at s c 0 (omega arith)) ∙ ap (λ (x : ℕ). place.At (cursorAt x (c .origin))) (add-zero (c .pos)))
+
+  stays : (g : Bool) → c .pos ≤ length s → (c .pos - c .origin) % 4 ≡ 0 → firstLookup s set g c ≡ place.At c
+  unfolding firstLookup
+  stays true i a = already i a
+  stays false i a = refl
+
+  pub start-aligned : c .origin ≤ c .pos → c .pos ≤ length s → (c .pos - c .origin) % 4 ≡ 0 → (h : Hint) → h ≡ hintAt (c .pos) → StartIs s set f c (start.From c h)
+  unfolding StartIs
+  start-aligned o i a h e = (stays f i a, true-start s set c h e o i a)
+
+  pub start-none : not f ≡ true → (h : Hint) → ((any : Settings) → TrueHint s any c (c .origin) h) → StartIs s set f c (start.From c h)
+  unfolding StartIs firstLookup
+  start-none e h t = (rw (negated f e), t set)
+    where
+      negated : (x : Bool) → not x ≡ true → x ≡ false
+      negated true q = sym q
+      negated false q = refl
+
+  module _ (e : not f ≡ false) (p : Place) (is : p ≡ alignTo s (set .version) c 4) where
+    looked : firstLookup s set f c ≡ p
+    unfolding firstLookup
+    looked = rw (affirmed f e) (sym is)
+      where
+        affirmed : (x : Bool) → not x ≡ false → x ≡ true
+        affirmed true q = refl
+        affirmed false q = sym q
+
+    pub start-short : (x : Shortage) → p ≡ place.Short x → StartIs s set f c (start.Short x)
+    unfolding StartIs
+    start-short x q = looked ∙ q
+
+    pub start-at : (back : Cursor) → p ≡ place.At back → (h : Hint) → ((any : Settings) → TrueHint s any back (back .origin) h) → StartIs s set f c (start.From back h)
+    unfolding StartIs
+    start-at back q h t = (looked ∙ q, t set)

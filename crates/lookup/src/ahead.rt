@@ -4,7 +4,7 @@ ghost use mathlib.Core.Path.{_≡_};
 ghost use Prim.Native.Nat.{_≤_, _<_, _^_};
 ghost use lib.ListN.{length};
 ghost use Rattle.wire.specs.Place.{cursorAt};
-ghost use Rattle.lookup.specs.Code.Ahead.{aheadOf, AheadIs, HeaderAhead, TrueHint, hintAt, hintAfter, valueAt, HeadAt, HeadOrEnd, LongHead, PassedTo};
+ghost use Rattle.lookup.specs.Code.Ahead.{aheadOf, AheadIs, HeaderAhead, StartIs, TrueHint, hintAt, hintAfter, valueAt, HeadAt, HeadOrEnd, LongHead, PassedTo};
 ghost use Rattle.lookup.specs.Xcdr1.{seekToSentinel};
 ghost use Rattle.lookup.specs.Xcdr2.{idOf};
 use crate::xcdr1::PID_LIST_END;
@@ -15,6 +15,7 @@ use crate::xcdr2::step_back;
 use crate::xcdr2::unit;
 use wire::cursor::Cursor;
 use wire::cursor::Place;
+use wire::cursor::Shortage;
 use wire::number::from_bytes;
 use wire::settings::Settings;
 use wire::settings::Version;
@@ -141,7 +142,7 @@ fn hint_at(next: usize) -> Hint
 }
 
 // The hint before any member was found: the start itself, if a header may stand there.
-pub fn first_hint(s: &[u8], back: Cursor) -> Hint
+fn first_hint(s: &[u8], back: Cursor) -> Hint
     ensures { λ r. ⌜ ((set : Settings) → TrueHint (now (s .entry)) set back (back .origin) r) ⌝ }
 {
     let pos = back.pos;
@@ -157,6 +158,36 @@ pub fn first_hint(s: &[u8], back: Cursor) -> Hint
         return hint_at(end);
     }
     hint_at(pos)
+}
+
+pub enum Start {
+    // The place that every lookup comes back to, and the hint before any member was found.
+    From(Cursor, Hint),
+    Short(Shortage),
+}
+
+// Where the lookups of a structure begin: the first one's alignment, if there is one. What follows a DHEADER or a header is mostly aligned
+// already, and then one test settles both.
+pub fn start_at(s: &[u8], set: Settings, some: bool, at: Cursor) -> Start
+    ensures { λ r. ⌜ StartIs (now (s .entry)) set some at r ⌝ }
+{
+    let version = set.version;
+    let pos = at.pos;
+    let origin = at.origin;
+    if origin <= pos {
+        if pos <= s.len() {
+            if (pos - origin) % 4 == 0 {
+                return Start::From(at, hint_at(pos));
+            }
+        }
+    }
+    if !some {
+        return Start::From(at, first_hint(s, at));
+    }
+    match at.align(s, version, 4) {
+        Place::Short(x) => Start::Short(x),
+        Place::At(back) => Start::From(back, first_hint(s, back)),
+    }
 }
 
 // The wanted member, if its header is where the hint says.

@@ -1,9 +1,10 @@
 // The reading of a value: the Rust's XTypesDeserializer. Its functions call each other in a cycle, and the depth falls at each value
 // that is opened.
-ghost use Rattle.book.specs.Places.{typeAt};
+ghost use Rattle.book.specs.Places.{typeAt, typesBy};
 ghost use Rattle.table.specs.Rows.{room};
 ghost use Rattle.table.specs.Outcome.{Done};
-ghost use Rattle.reader.specs.Cycle.{runIn, bodyIn};
+ghost use Rattle.reader.specs.Nested.{reading};
+ghost use Rattle.reader.specs.Code.Cycle.{runIn, bodyIn};
 
 pub mod member;
 pub mod plain;
@@ -24,6 +25,35 @@ use values::scalar::enum_type;
 use wire::cursor::Cursor;
 use wire::dheader::Contents;
 use wire::settings::Settings;
+
+// How many values may be opened one in the other; the root is the first.
+const DEPTH: usize = 16;
+
+// A whole reading of the data, from its start: one value of type number `root`.
+pub fn top_level_type(
+    book: &[u8],
+    index: &[u32],
+    s: &[u8],
+    set: Settings,
+    t: &mut [u64],
+    root: usize,
+) -> Out
+    ensures { λ r. ⌜ Done (reading (typesBy (now (book .entry)) (now (index .entry))) (now (s .entry)) set root (room (now (t .entry)) 0)) 0 (now (t .entry)) (now (t .exit)) r ⌝ }
+{
+    as_nested(
+        book,
+        index,
+        s,
+        set,
+        t,
+        root,
+        0,
+        1,
+        Cursor::new(0, 0),
+        0,
+        DEPTH,
+    )
+}
 
 // Opens so many structures, enums or unions of one type, one after the other: a member's alone, or a list's. Of each the kind, the depth
 // and the room are asked in this order, and its row is written last, when all rows beneath are counted.
@@ -113,13 +143,13 @@ pub fn body(
     match types::beginning(book, s, set, at, c) {
         Contents::Short(x) => Out::Short(x),
         Contents::Between(d, end) => {
-            if kind != STRUCTURE {
-                return union::union_type(book, index, s, set, t, at, mutable, d, n, depth);
+            if kind == STRUCTURE {
+                if mutable {
+                    return structure::mstruct(book, index, s, set, t, at, end, d, n, depth);
+                }
+                return structure::fstruct(book, index, s, set, t, at, d, n, depth);
             }
-            if mutable {
-                return structure::mstruct(book, index, s, set, t, at, end, d, n, depth);
-            }
-            structure::fstruct(book, index, s, set, t, at, d, n, depth)
+            union::union_type(book, index, s, set, t, at, mutable, d, n, depth)
         }
     }
 }

@@ -2,9 +2,11 @@
 ghost use Rattle.book.specs.Places.{memberAt};
 ghost use Rattle.table.specs.Rows.{room};
 ghost use Rattle.table.specs.Outcome.{Done};
-ghost use Rattle.reader.specs.Cycle.{foundIn, mmemberIn, optionalIn, fmemberIn};
+ghost use Rattle.reader.specs.Code.Cycle.{foundIn, mmemberIn, optionalIn, fmemberIn};
+use crate::as_nested;
 use crate::types::by_length;
 use crate::types::element_count;
+use crate::types::kind_at;
 use crate::value::elements;
 use crate::value::value;
 use book::index::place;
@@ -21,7 +23,8 @@ use wire::number::Boolean;
 use wire::settings::Settings;
 use wire::settings::Version;
 
-// A member of a Final or Appendable type.
+// A member of a Final or Appendable type. A value that is opened is opened from here, which `value` would do too: the compiler takes this
+// into the structure's loop.
 pub fn fmember(
     book: &[u8],
     index: &[u32],
@@ -39,7 +42,13 @@ pub fn fmember(
     if m.optional {
         return option(book, index, s, set, t, p, c, n, depth);
     }
-    value(book, index, s, set, t, m.ty, m.id as u64, c, n, depth)
+    let ty = m.ty;
+    let i = m.id as u64;
+    let at = place(book, index, ty);
+    if kinds::opens(kind_at(book, at)) {
+        return as_nested(book, index, s, set, t, ty, i, 1, c, n, depth);
+    }
+    value(book, index, s, set, t, ty, i, c, n, depth)
 }
 
 // Serialization rules 19 and 20: an optional member of a Final or Appendable type. XCDR1 looks it up, XCDR2 asks a boolean.

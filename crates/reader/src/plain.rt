@@ -7,15 +7,15 @@ ghost use Rattle.reader.specs.Value.{Nest, readAs};
 ghost use Rattle.reader.specs.Member.{fmemberOf, foundOf};
 ghost use Prim.Native.Nat.{ℕ, _<_};
 ghost use mathlib.Core.Path.{_≡_};
-ghost use Rattle.lookup.specs.Ahead.{HeadOrEnd, Sought};
+ghost use Rattle.lookup.specs.Code.Ahead.{HeadOrEnd, HeaderAhead};
 use crate::types::read_as_there;
 use book::bytes::is_there;
 use book::index::place;
 use book::member::head_there;
 use lookup::ahead::Ahead;
 use lookup::ahead::Hint;
-use lookup::ahead::none;
-use lookup::ahead::sought;
+use lookup::ahead::header_ahead;
+use lookup::ahead::no_header;
 use wire::cursor::Cursor;
 use wire::settings::Settings;
 
@@ -84,11 +84,11 @@ pub fn take_found(
 // What the header where the hint says tells of the member at p, if that is there whole: so no byte of it is asked for again.
 pub fn ahead(book: &[u8], s: &[u8], set: Settings, p: usize, h: Hint, origin: usize) -> Ahead
     requires { ⌜ HeadOrEnd (now s) (h .next) origin ⌝ }
-    ensures { λ r. ⌜ Sought (now (s .entry)) set (memberAt (now (book .entry)) p .id) h origin r ⌝ }
+    ensures { λ r. ⌜ HeaderAhead (now (s .entry)) set (memberAt (now (book .entry)) p .id) h origin r ⌝ }
 {
     if !is_there(book, p, book::member::LAST) {
-        return none();
+        return no_header();
     }
     let m = head_there(book, p);
-    sought(s, set, m.id, h, origin)
+    header_ahead(s, set, m.id, h, origin)
 }

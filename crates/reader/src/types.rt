@@ -5,17 +5,15 @@ ghost use Rattle.reader.specs.Value.{isSequence, primitiveElement, readA
 ghost use Rattle.reader.specs.Member.{byLength, elementCount};
 ghost use Rattle.reader.specs.Structure.{absorbs};
 ghost use Rattle.reader.specs.Nested.{isMutable, beginningOf, endingBy};
-ghost use Rattle.reader.specs.Code.Run.{firstLookup};
 ghost use Rattle.table.specs.Outcome.{Done};
 ghost use mathlib.Core.List.{List};
 ghost use Prim.Native.Nat.{ℕ, _+_, _<_};
 ghost use lib.ListN.{length};
-ghost use Rattle.lookup.specs.Ahead.{Led};
+ghost use Rattle.lookup.specs.Code.Ahead.{TrueHint};
 use book::bytes::byte_there;
 use book::bytes::is_there;
 use book::bytes::quad_there;
 use book::index::place;
-use book::member::member_count;
 use book::types::bound;
 use book::types::element;
 use book::types::extensibility;
@@ -126,28 +124,18 @@ pub fn beginning(book: &[u8], s: &[u8], set: Settings, at: usize, c: Cursor) -> 
         Contents::Between(d, end) => Contents::Between(d, end),
         Contents::Short(x) => {
             if (extensibility == 2) & (kind_at(book, at) != STRUCTURE) {
-                return Contents::Between(x.at, s.len());
+                let reached = x.at;
+                return Contents::Between(reached, s.len());
             }
             Contents::Short(x)
         }
     }
 }
 
-// Where every lookup of a Mutable structure comes back to: the first one's alignment. A structure without members has none.
-pub fn first_lookup(book: &[u8], s: &[u8], set: Settings, at: usize, c: Cursor) -> Place
-    ensures { λ r. ⌜ r ≡ firstLookup (now (s .entry)) set (typeAt (now (book .entry)) at .members) c ⌝ }
-{
-    let version = set.version;
-    if member_count(book, at) == 0 {
-        return Place::At(c);
-    }
-    c.align(s, version, 4)
-}
-
 // What ends a Mutable structure, after n rows: the marker in XCDR1, from where the hint says; in XCDR2 it ends where its DHEADER says,
 // wherever its members were.
 pub fn ending(s: &[u8], set: Settings, end: usize, c: Cursor, h: Hint, n: usize) -> Out
-    requires { ⌜ Led (now s) set c (c .origin) h ⌝ }
+    requires { ⌜ TrueHint (now s) set c (c .origin) h ⌝ }
     ensures { λ r. ⌜ ((t : List ℕ) → Done (endingBy (now (s .entry)) set (set .version) end c) n t t r) ⌝ }
 {
     let version = set.version;

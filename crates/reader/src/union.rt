@@ -2,12 +2,13 @@
 ghost use Rattle.book.specs.Places.{typeAt, memberAt};
 ghost use Rattle.table.specs.Rows.{room};
 ghost use Rattle.table.specs.Outcome.{Done};
-ghost use Rattle.reader.specs.Cycle.{unionIn, discriminatorIn, chosenIn};
-use crate::member::fmember;
+ghost use Rattle.reader.specs.Code.Cycle.{unionIn, discriminatorIn, chosenIn};
 use crate::member::mmember;
+use crate::member::option;
 use crate::value::value;
 use book::labels::Found;
 use book::member::id;
+use book::member::is_optional;
 use book::member::members;
 use book::member::type_index;
 use choice::discriminator::Discriminator;
@@ -106,7 +107,21 @@ pub fn chosen(
                 if mutable {
                     return mmember(book, index, s, set, t, q, c, n, depth);
                 }
-                fmember(book, index, s, set, t, q, c, n, depth)
+                if is_optional(book, q) {
+                    return option(book, index, s, set, t, q, c, n, depth);
+                }
+                value(
+                    book,
+                    index,
+                    s,
+                    set,
+                    t,
+                    type_index(book, q),
+                    id(book, q) as u64,
+                    c,
+                    n,
+                    depth,
+                )
             }
         },
     }

@@ -2,7 +2,7 @@
 ghost use Rattle.book.specs.Places.{typeAt};
 ghost use Rattle.table.specs.Rows.{room};
 ghost use Rattle.table.specs.Outcome.{Done};
-ghost use Rattle.reader.specs.Cycle.{elementsIn, listIn, valueIn};
+ghost use Rattle.reader.specs.Code.Cycle.{elementsIn, listIn, valueIn};
 use crate::as_nested;
 use crate::types::is_sequence;
 use crate::types::kind_at;

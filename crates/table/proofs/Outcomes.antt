@@ -104,6 +104,13 @@ module _ (rest : Cursor → ℕ → Outcome) where
   end-refused true e = rw e
   end-refused false e = rw e
 
+-- nothing follows
+pub then-nil : (o : Outcome) → andThen o (λ d used. read d []) ≡ o
+unfolding andThen prepend
+then-nil (read c rs) = ap (read c) (append-nil rs)
+then-nil (short x) = refl
+then-nil (refused k) = refl
+
 -- ---- room for a row
 
 module _ (t : List ℕ) (n : ℕ) (o : Outcome) (f : Bool) (is : f ≡ noRoom t n) where

@@ -2,9 +2,12 @@
 -- first. What is answered is what the search from the structure's start would find.
 use Prim.Native.Nat.{ℕ, zero, suc, _+_, _-_, _%_, _≤_, _<_, _^_}
 use mathlib.Core.Path.{_≡_}
+use mathlib.Core.Bool.{Bool}
 use mathlib.Core.List.{List}
 use lib.ListN.{length}
+use Rattle.ground.specs.Choice.{pick}
 use Rattle.wire.specs.Place.{cursorAt, alignTo}
+use Rattle.wire.specs.declared.cursor.Place.{Place}
 use Rattle.wire.specs.declared.cursor.Place.the-variants as place
 use Rattle.wire.specs.Number.{numberAt}
 use Rattle.wire.specs.declared.settings.Settings.{Settings}
@@ -19,6 +22,8 @@ use Rattle.lookup.specs.declared.search.Seek.the-variants.{Found}
 use Rattle.lookup.specs.declared.search.Turn.the-variants.{On}
 use Rattle.lookup.specs.declared.ahead.Ahead.{Ahead}
 use Rattle.lookup.specs.declared.ahead.Hint.{Hint}
+use Rattle.lookup.specs.declared.ahead.Start.{Start}
+use Rattle.lookup.specs.declared.ahead.Start.the-variants as start
 use Rattle.lookup.specs.Member.{askedFor, locate}
 use Rattle.lookup.specs.declared.member.Located.the-variants as located
 
@@ -98,3 +103,12 @@ pub record HeaderAhead (s : List ℕ) (set : Settings) (id : ℕ) (h : Hint) (or
   pub small : 0 < r .value → id < 2 ^ 28
   pub found : (back : Cursor) → alignTo s (set .version) back 4 ≡ place.At back → TrueHint s set back origin h → 0 < r .value → locate s set id back ≡ located.Found (r .length) (valueAt (set .version) (r .value) origin) back
   pub on : (back : Cursor) → TrueHint s set back origin h → 0 < r .value → TrueHint s set back origin (hintAfter r id)
+
+-- where the lookups of a structure come back to: the first one's "align 4"; a structure without members has none
+unfoldable pub firstLookup : List ℕ → Settings → Bool → Cursor → Place
+firstLookup s set some c = pick some (alignTo s (set .version) c 4) (place.At c)
+
+-- what is told of it: that place, with a hint that is true; or that it ran short
+unfoldable pub StartIs : List ℕ → Settings → Bool → Cursor → Start → Type 0
+StartIs s set some c (start.Short x) = firstLookup s set some c ≡ place.Short x
+StartIs s set some c (start.From back h) = (firstLookup s set some c ≡ place.At back) × TrueHint s set back (back .origin) h
