@@ -1,13 +1,13 @@
 -- A column's rule, by one test that antt computes at each code; and what readers ask of the columns. Assumes nothing.
 use Prim.Native.Nat.{ℕ, _≤_, _<_, zero-le}
 use mathlib.Core.Path.{_≡_, refl}
-use mathlib.Core.Bool.{Bool, true, false, _||_}
+use mathlib.Core.Bool.{Bool, true, false, not, _||_}
 use mathlib.Core.List.{List, [], _∷_}
 use lib.Dec.{T, eqb, leb, lit<, eqb→eq, leb→le}
 use lib.ListN.{getD}
 use borrow.Author.Tests.{ne-eqb, leb-true, leb-false}
 use native.Mathlib.Omega.{arith}
-use Rattle.ground.specs.Choice.{pick, both, among}
+use Rattle.ground.specs.Choice.{pick, both, among, _‥_, within}
 use Rattle.ground.proofs.Tests.{both-left, both-right, above}
 use Rattle.ground.proofs.Between.{passes, between}
 use Rattle.kinds.specs.Kinds.{alignOf, elementSizeOf, storedOf, isPrimitive, opens}
@@ -46,6 +46,22 @@ byte-stored : storedOf 2 ≡ 13
 unfolding storedOf
 byte-stored = refl
 
+-- any other is stored as its own kind
+abbrev own : ℕ → Bool
+own k = both (within (0 ‥ 27) k) (not (among (2 ∷ 26 ∷ []) k))
+
+pub own-stored : (k : ℕ) → T (own k) → storedOf k ≡ k
+unfolding storedOf
+own-stored k t = go (eqb k 2) (eqb k 26) (within (0 ‥ 27) k) t
+  where
+    go : (byte array listed : Bool) → T (both listed (not (byte || (array || false)))) → pick byte 13 (pick array 25 (pick listed k 0)) ≡ k
+    go true array true t = absurd t
+    go true array false t = absurd t
+    go false true true t = absurd t
+    go false true false t = absurd t
+    go false false true t = refl
+    go false false false t = absurd t
+
 -- "Sequences and arrays: kind 25"
 pub sequence-stored : storedOf 25 ≡ 25
 unfolding storedOf
@@ -57,12 +73,12 @@ array-stored = refl
 
 -- "a structure, enum or union its own kind"
 pub opened-stored : (k : ℕ) → opens k ≡ true → storedOf k ≡ k
-unfolding storedOf opens
+unfolding opens
 opened-stored k o =
     let t : T (both (leb 21 k) (leb k 23)) = rw o tt in
     let low : 21 ≤ k = leb→le 21 k (both-left (leb 21 k) (leb k 23) t) in
     let high : k ≤ 23 = leb→le k 23 (both-right (leb 21 k) (leb k 23) t) in
-    eqb→eq _ _ (between (λ i. eqb (storedOf i) i) 3 21 tt k low (omega arith))
+    own-stored k (between own 3 21 tt k low (omega arith))
 
 -- a stored kind is one of the 28
 pub stored-listed : (k : ℕ) → storedOf k ≤ 27

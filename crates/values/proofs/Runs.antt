@@ -26,8 +26,7 @@ use Rattle.wire.specs.Place.{cursorAt, moved, alignmentOf, paddingOf, alignTo}
 use Rattle.wire.specs.Number.{numberAt, readNumber}
 use Rattle.wire.proofs.Moves.{still-aligned, padded-aligned, seek-inv, align-inv}
 use Rattle.wire.proofs.Numbers.{read-past, read-aligned}
-use Rattle.kinds.specs.declared.Entry.{Entry}
-use Rattle.kinds.specs.Kinds.{alignOf, storedOf, entryOf}
+use Rattle.kinds.specs.Kinds.{alignOf, storedOf}
 use Rattle.table.specs.declared.rows.Row.{Row}
 use Rattle.table.specs.Rows.{row, width, capacity, room, putRow, Filled}
 use Rattle.table.proofs.Filling.{filled-none, filled-one, filled-then}
@@ -35,7 +34,7 @@ use Rattle.table.specs.Outcome.{Outcome, read, roomFor, prepend, andThen}
 use Rattle.table.proofs.Outcomes.{is-read, then-read}
 use Rattle.values.specs.Scalar.{wordOf, scalarOf, onNumber, rowed}
 use Rattle.values.specs.List.{elementsFrom}
-use Rattle.values.specs.Quick.{isNumber, Quickly, rowsFrom, WhereThere}
+use Rattle.values.specs.Code.Quick.{isNumber, Quickly, rowsFrom, WhereThere}
 use Rattle.values.proofs.Quickly.{quick-is, number-is, wide-some, wide-most, ranged}
 
 -- what is left of a list, one number on
@@ -161,23 +160,17 @@ module _ (s t : List ℕ) (w count p n : ℕ) where
     pub there-place : n + count ≤ capacity t
     there-place = told x h yes .place
 
--- what a number's entry says
+-- what the test for a number says
 module _ (kind : ℕ) (b : Bool) (is : b ≡ isNumber kind) (yes : not b ≡ false) where
   pub number-yes : isNumber kind ≡ true
   number-yes = sym is ∙ not-false b yes
 
-  module _ (e : Entry) (entry : e ≡ entryOf kind) where
-    pub entry-wide : e .align ≡ alignOf kind
-    entry-wide = rw entry
+  module _ (w : ℕ) (wide : w ≡ alignOf kind) where
+    pub number-some : 0 < w
+    number-some = wide-some kind number-yes w wide
 
-    pub entry-stored : e .stored ≡ storedOf kind
-    entry-stored = rw entry
-
-    pub entry-some : 0 < e .align
-    entry-some = wide-some kind number-yes (e .align) entry-wide
-
-    pub entry-most : e .align ≤ 8
-    entry-most = wide-most kind number-yes (e .align) entry-wide
+    pub number-most : w ≤ 8
+    number-most = wide-most kind number-yes w wide
 
 -- a number's bytes are whole steps of its alignment
 abbrev steps : Version → ℕ → Bool

@@ -3,8 +3,8 @@ use borrow.Author.Needs.{needs}
 use Rattle.values.proofs.list.elements.Statement.{statement}
 use Rattle.values.proofs.list.elements.Tie as tie
 
-run-requires : tie.Need-run-requires
-run-requires c κs = search needs
+numbers-at-requires : tie.Need-numbers-at-requires
+numbers-at-requires c κs = search needs
 
 new-requires : tie.Need-new-requires
 new-requires c κs = search needs
@@ -16,7 +16,7 @@ same-length : tie.Need-same-length
 same-length c = search needs
 
 returns : tie.Need-returns
-returns c = search (needs, quick-all)
+returns c = search (needs, quick-else, quick-all, quick-count)
 
 each-requires : tie.Need-each-requires
 each-requires c κs = search needs
@@ -31,7 +31,7 @@ pub elements-spec : {M : Type 1} → statement M
 elements-spec =
     tie.close
     (tie.spec
-    run-requires
+    numbers-at-requires
     new-requires
     add-t14
     same-length

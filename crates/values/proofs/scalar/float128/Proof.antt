@@ -9,6 +9,12 @@ read-float128-requires c κs = search needs
 enum-known-low : tie.Need-enum-known-low
 enum-known-low c = search needs
 
+stored-of-requires : tie.Need-stored-of-requires
+stored-of-requires c κs = search needs
+
+cast-t15 : tie.Need-cast-t15
+cast-t15 c = search needs
+
 give-row-requires : tie.Need-give-row-requires
 give-row-requires c κs = search needs
 
@@ -30,6 +36,8 @@ float128-spec =
     (tie.spec
     read-float128-requires
     enum-known-low
+    stored-of-requires
+    cast-t15
     give-row-requires
     enum-known-x
     same-length

@@ -12,14 +12,14 @@ float128-requires c κs = search needs
 string-type-requires : tie.Need-string-type-requires
 string-type-requires c κs = search needs
 
-string-requires : tie.Need-string-requires
-string-requires c κs = search needs
+text-row-requires : tie.Need-text-row-requires
+text-row-requires c κs = search needs
 
 wstring-type-requires : tie.Need-wstring-type-requires
 wstring-type-requires c κs = search needs
 
-string-requires-2 : tie.Need-string-requires-2
-string-requires-2 c κs = search needs
+text-row-requires-2 : tie.Need-text-row-requires-2
+text-row-requires-2 c κs = search needs
 
 is-primitive-requires : tie.Need-is-primitive-requires
 is-primitive-requires c κs = search needs
@@ -70,9 +70,9 @@ scalar-spec =
     boolean-requires
     float128-requires
     string-type-requires
-    string-requires
+    text-row-requires
     wstring-type-requires
-    string-requires-2
+    text-row-requires-2
     is-primitive-requires
     number-requires
     same-length

@@ -1,11 +1,11 @@
 use borrow.Author.Tests.{not-false}
 use Rattle.values.proofs.Quickly.{quick-text, quick-not, free-fits}
 use borrow.Author.Needs.{needs}
-use Rattle.values.proofs.quick.string.Statement.{statement}
-use Rattle.values.proofs.quick.string.Tie as tie
+use Rattle.values.proofs.quick.text_at.Statement.{statement}
+use Rattle.values.proofs.quick.text_at.Tie as tie
 
 start-requires : tie.Need-start-requires
-start-requires c κs = search (needs, quick-text, quick-not, free-fits)
+start-requires c κs = search needs
 
 add-if1 : tie.Need-add-if1
 add-if1 c = search needs
@@ -14,7 +14,7 @@ returns : tie.Need-returns
 returns c = search (needs, quick-text, quick-not, free-fits)
 
 from-bytes-requires : tie.Need-from-bytes-requires
-from-bytes-requires c κs = search (needs, quick-text, quick-not, free-fits)
+from-bytes-requires c κs = search needs
 
 add-start : tie.Need-add-start
 add-start c = search needs
@@ -32,10 +32,16 @@ sub-is-text : tie.Need-sub-is-text
 sub-is-text c = search needs
 
 is-text-requires : tie.Need-is-text-requires
-is-text-requires c κs = search (needs, quick-text, quick-not, free-fits)
+is-text-requires c κs = search needs
 
 returns-4 : tie.Need-returns-4
 returns-4 c = search (needs, quick-text, quick-not, free-fits)
+
+stored-of-requires : tie.Need-stored-of-requires
+stored-of-requires c κs = search needs
+
+cast-t16 : tie.Need-cast-t16
+cast-t16 c = search needs
 
 sub-t14 : tie.Need-sub-t14
 sub-t14 c = search needs
@@ -50,10 +56,10 @@ same-length : tie.Need-same-length
 same-length c = search needs
 
 returns-5 : tie.Need-returns-5
-returns-5 c = quick-text _ _ _ _ _ _ (c .before .before .before .before .before .before .before .before .before .before .start .result) _ _ (c .before .before .before .before .before .before .before .before .before .before .start .ensures .0) (search needs) (c .before .before .before .before .before .before .before .before .from-bytes .ensures .0) (search needs) (search needs) (search needs) _ (c .before .before .before .before .before .is-text .ensures) (not-false _ (c .before .before .before .before .if4 .left)) (search needs) _ (search needs)
+returns-5 c = quick-text _ _ _ _ _ _ (c .before .before .before .before .before .before .before .before .before .before .before .start .result) _ _ (c .before .before .before .before .before .before .before .before .before .before .before .start .ensures .0) (search needs) (c .before .before .before .before .before .before .before .before .before .from-bytes .ensures .0) (search needs) (search needs) (search needs) _ (c .before .before .before .before .before .before .is-text .ensures) (not-false _ (c .before .before .before .before .before .if4 .left)) _ (c .before .before .before .before .stored-of .ensures) (search needs) _ (search needs)
 
-pub string-spec : {M : Type 1} → statement M
-string-spec =
+pub text-at-spec : {M : Type 1} → statement M
+text-at-spec =
     tie.close
     (tie.spec
     start-requires
@@ -67,6 +73,8 @@ string-spec =
     sub-is-text
     is-text-requires
     returns-4
+    stored-of-requires
+    cast-t16
     sub-t14
     put-row-requires
     add-result
