@@ -21,7 +21,7 @@ use Rattle.book.specs.declared.member.Run.{Run}
 use Rattle.book.specs.Types.{BookType, Member}
 use Rattle.book.specs.Places.{memberAt, typeAt, listed, later, Started, After}
 use Rattle.book.proofs.Places.{run-more, run-none}
-use Rattle.values.specs.Quick.{Quickly}
+use Rattle.values.specs.Code.Quick.{Quickly}
 use Rattle.values.proofs.Quickly.{quick-done, quick-none}
 use Rattle.reader.specs.Value.{Nest}
 use Rattle.reader.specs.Member.{fmemberOf}

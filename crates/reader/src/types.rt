@@ -149,8 +149,7 @@ pub fn element_count(book: &[u8], index: &[u32], at: usize, length: u64) -> u64
     ensures { λ r. ⌜ r ≡ elementCount (typesBy (now (book .entry)) (now (index .entry))) (typeAt (now (book .entry)) at) length ⌝ }
 {
     let q = place(book, index, element(book, at));
-    let entry = kinds::of_kind(kind_at(book, q));
-    let size = entry.element;
+    let size = kinds::element_of(kind_at(book, q));
     length / (size as u64)
 }
 

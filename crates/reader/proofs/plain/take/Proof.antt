@@ -23,8 +23,8 @@ kind-of-requires c κs = search needs
 cast-take : tie.Need-cast-take
 cast-take c = search needs
 
-take-requires : tie.Need-take-requires
-take-requires c κs = search needs
+value-at-requires : tie.Need-value-at-requires
+value-at-requires c κs = search needs
 
 same-length : tie.Need-same-length
 same-length c = search needs
@@ -42,6 +42,6 @@ take-spec =
     returns-2
     kind-of-requires
     cast-take
-    take-requires
+    value-at-requires
     same-length
     returns-3)
