@@ -41,6 +41,11 @@ primitive-align k p h =
     let t : T (word k) = rw (ne-eqb k 11 h) at (words k (r .0) (omega arith)) in
     (leb→le 1 (alignOf k) (both-left (leb 1 (alignOf k)) (leb (alignOf k) 8) t), leb→le (alignOf k) 8 (both-right (leb 1 (alignOf k)) (leb (alignOf k) 8) t))
 
+-- "(FLOAT128 to 16)"
+pub float128-align : alignOf 11 ≡ 16
+unfolding alignOf
+float128-align = refl
+
 -- "BYTE is stored as 13."
 byte-stored : storedOf 2 ≡ 13
 unfolding storedOf

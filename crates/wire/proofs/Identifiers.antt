@@ -10,7 +10,8 @@ use borrow.Author.Tests.{ltb-true, ltb-false, eq-eqb, eqb-true}
 use Rattle.ground.specs.Choice.{both}
 use Rattle.ground.proofs.Tests.{either-way, neither-first, neither-second, and-both, below, above}
 use Rattle.ground.proofs.Between.{past3}
-use Rattle.wire.specs.Identifier.{settingsOf, sameBytes}
+use Rattle.wire.specs.Identifier.{settingsOf}
+use Rattle.wire.specs.Code.Strings.{sameBytes}
 use Rattle.wire.specs.declared.settings.Representation.{Representation}
 use Rattle.wire.specs.declared.settings.Representation.the-variants.{Unknown}
 

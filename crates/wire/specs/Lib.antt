@@ -2,3 +2,4 @@ pub mod Identifier
 pub mod Place
 pub mod Number
 pub mod Signed
+pub mod Code
