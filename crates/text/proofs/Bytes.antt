@@ -12,7 +12,7 @@ use borrow.Author.Count.{below-more}
 use Rattle.ground.specs.Choice.{Range, _‥_}
 use Rattle.ground.proofs.Tests.{inside, below, above}
 use Rattle.text.specs.Unicode.{follow, table37, restGood}
-use Rattle.text.specs.Step.{wantOf, tails, wantsOf, wants, followOf, after, Passed}
+use Rattle.text.specs.Code.Step.{wantOf, tails, wantsOf, wants, followOf, after, Passed}
 use Rattle.text.specs.declared.utf8.Want.{Want}
 use Rattle.text.specs.declared.utf8.Step.{Step}
 use Rattle.text.specs.declared.utf8.Step.the-variants.{Next, Bad}

@@ -7,7 +7,8 @@ use native.Mathlib.Omega.{arith}
 use lib.ListN.{length}
 use borrow.Author.Tests.{ne-eqb}
 use Rattle.wire.specs.Place.{seekTo, afterMove}
-use Rattle.wire.specs.Number.{afterNumber, ReadIs}
+use Rattle.wire.specs.Number.{afterNumber}
+use Rattle.wire.specs.Code.Reads.{ReadIs}
 use Rattle.wire.specs.declared.settings.Settings.{Settings}
 use Rattle.wire.specs.declared.cursor.Cursor.{Cursor}
 use Rattle.wire.specs.declared.cursor.Shortage.{Shortage}
@@ -17,7 +18,7 @@ use Rattle.wire.specs.declared.number.Number.{Number}
 use Rattle.wire.specs.declared.number.Number.the-variants as number
 use Rattle.wire.proofs.Moves.{seek-inv}
 use Rattle.text.specs.Unicode.{utf8, restGood}
-use Rattle.text.specs.Step.{goodFrom}
+use Rattle.text.specs.Code.Step.{goodFrom}
 use Rattle.text.specs.Text.{part, judged, bytesHere, stringType, Units, short, units, unitThen, readUnits, onUnits, unitsHere, wideHere, wstringType}
 use Rattle.text.specs.declared.string.Text.{Text}
 use Rattle.text.specs.declared.string.Text.the-variants as text

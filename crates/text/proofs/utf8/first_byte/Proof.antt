@@ -1,9 +1,9 @@
--- `text::utf8::first` meets its contract: one law for each line of the table. Assumes nothing.
+-- `text::utf8::first_byte` meets its contract: one law for each line of the table. Assumes nothing.
 use Rattle.text.proofs.Table.{lines, line4, line6, line8, past-lines}
 use native.Mathlib.Omega.{arith}
 use borrow.Author.Needs.{needs}
-use Rattle.text.proofs.utf8.first.Statement.{statement}
-use Rattle.text.proofs.utf8.first.Tie as tie
+use Rattle.text.proofs.utf8.first_byte.Statement.{statement}
+use Rattle.text.proofs.utf8.first_byte.Tie as tie
 
 then-requires : tie.Need-then-requires
 then-requires c κs = search needs
@@ -65,8 +65,8 @@ returns-10 c = search (needs, lines)
 returns-11 : tie.Need-returns-11
 returns-11 c = past-lines _ (omega arith) (omega arith)
 
-pub first-spec : {M : Type 1} → statement M
-first-spec =
+pub first-byte-spec : {M : Type 1} → statement M
+first-byte-spec =
     tie.close
     (tie.spec
     then-requires
