@@ -31,8 +31,10 @@ use Rattle.table.specs.declared.out.Refusal.{Refusal}
 use Rattle.table.specs.declared.out.Refusal.the-variants.{NoRoom}
 use Rattle.table.specs.declared.out.Out.{Out}
 use Rattle.table.specs.declared.out.Out.the-variants.{Read, Short, Refused}
-use Rattle.table.specs.Rows.{row, room, noRoom, putRow}
-use Rattle.table.specs.Outcome.{Outcome, read, short, refused, roomFor, prepend, closed, andThen, Done}
+use Rattle.table.specs.Rows.{row, room, noRoom}
+use Rattle.table.specs.Code.Rows.{putRow}
+use Rattle.table.specs.Outcome.{Outcome, read, short, refused, roomFor, prepend, closed, andThen}
+use Rattle.table.specs.Code.Outcome.{Done}
 use Rattle.table.proofs.Filling.{filled-none}
 use Rattle.table.proofs.Outcomes.{is-short, is-same, Sofar, sofar-start, sofar-read, turn-read, turn-short, turn-refused, row-full, row-read, row-short, row-refused}
 use Rattle.reader.specs.Value.{Nest, isSequence, openedFrom, valueOf}

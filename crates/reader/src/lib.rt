@@ -5,7 +5,7 @@ ghost use mathlib.Core.Bool.{true, false};
 ghost use mathlib.Core.List.{[]};
 ghost use Rattle.book.specs.Places.{memberAt, typeAt};
 ghost use Rattle.table.specs.Rows.{row, room};
-ghost use Rattle.table.specs.Outcome.{Done};
+ghost use Rattle.table.specs.Code.Outcome.{Done};
 ghost use Rattle.wire.specs.Place.{alignTo};
 ghost use Rattle.reader.specs.Cycle.{nest, bodyIn, fmembersIn, foundIn, mmembersIn, structuresIn};
 

@@ -7,7 +7,7 @@ ghost use Rattle.reader.specs.Structure.{absorbs};
 ghost use Rattle.reader.specs.Nested.{isMutable, contentsAt};
 ghost use Rattle.reader.specs.Several.{isStructure, alignedFor, begunBy, endedBy};
 ghost use mathlib.Core.Bool.{true, false};
-ghost use Rattle.table.specs.Outcome.{Done};
+ghost use Rattle.table.specs.Code.Outcome.{Done};
 ghost use mathlib.Core.List.{List};
 ghost use Prim.Native.Nat.{ℕ, _+_, _<_};
 ghost use lib.ListN.{length};

@@ -1,7 +1,7 @@
 // Unions: the discriminator, and the member that it selects.
 ghost use Rattle.book.specs.Places.{typeAt, memberAt};
 ghost use Rattle.table.specs.Rows.{room};
-ghost use Rattle.table.specs.Outcome.{Done};
+ghost use Rattle.table.specs.Code.Outcome.{Done};
 ghost use mathlib.Core.Bool.{true, false};
 ghost use Rattle.values.specs.Header.{unheardDheader};
 ghost use Rattle.reader.specs.Cycle.{unionIn, chosenIn};

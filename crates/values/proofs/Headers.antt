@@ -14,7 +14,8 @@ use Rattle.wire.specs.declared.number.Number.{Number}
 use Rattle.wire.specs.declared.number.Number.the-variants as number
 use lib.ListN.{length}
 use Rattle.wire.specs.Place.{cursorAt, alignmentOf, paddingOf}
-use Rattle.wire.specs.Number.{numberAt, readNumber, ReadIs}
+use Rattle.wire.specs.Number.{numberAt, readNumber}
+use Rattle.wire.specs.Code.Reads.{ReadIs}
 use Rattle.wire.proofs.Numbers.{read-there}
 use Rattle.values.specs.Header.{pastNumber, dheaderBy, afterDheader, placeReached, unheardDheader, listStart, countAt, countFrom}
 

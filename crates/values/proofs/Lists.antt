@@ -22,8 +22,10 @@ use Rattle.table.specs.declared.out.Refusal.{Refusal}
 use Rattle.table.specs.declared.out.Refusal.the-variants.{NoRoom}
 use Rattle.table.specs.declared.out.Out.{Out}
 use Rattle.table.specs.declared.out.Out.the-variants.{Read, Short, Refused}
-use Rattle.table.specs.Rows.{row, room, noRoom, putRow, Filled}
-use Rattle.table.specs.Outcome.{Outcome, read, prepend, andThen, Done}
+use Rattle.table.specs.Rows.{row, room, noRoom}
+use Rattle.table.specs.Code.Rows.{putRow, Filled}
+use Rattle.table.specs.Outcome.{Outcome, read, prepend, andThen}
+use Rattle.table.specs.Code.Outcome.{Done}
 use Rattle.table.proofs.Filling.{filled-fits, filled-none, filled-one, full-fits, room-used}
 use Rattle.table.proofs.Outcomes.{is-short, is-refused, is-same, is-after, no-room, some-room, was-read, was-short, was-refused, then-read, then-short, then-refused, Sofar, sofar-start, sofar-more, sofar-read, sofar-short, sofar-refused}
 use Rattle.values.specs.Scalar.{scalarOf}

@@ -27,8 +27,10 @@ use Rattle.kinds.specs.Kinds.{alignOf, storedOf, isPrimitive}
 use Rattle.kinds.proofs.Table.{primitive-align, own-stored}
 use Rattle.table.specs.declared.rows.Row.{Row}
 use Rattle.table.specs.declared.out.Out.the-variants.{Read}
-use Rattle.table.specs.Rows.{row, width, room, noRoom, putRow}
-use Rattle.table.specs.Outcome.{Outcome, Done}
+use Rattle.table.specs.Rows.{row, width, room, noRoom}
+use Rattle.table.specs.Code.Rows.{putRow}
+use Rattle.table.specs.Outcome.{Outcome}
+use Rattle.table.specs.Code.Outcome.{Done}
 use Rattle.table.proofs.Filling.{full-fits, filled-fits}
 use Rattle.table.proofs.Outcomes.{is-same, was-read}
 use Rattle.values.specs.Scalar.{scalarOf, onNumber, onBoolean, onText, boolWord, rowed, wordOf}

@@ -28,7 +28,8 @@ use Rattle.wire.proofs.Moves.{still-aligned, padded-aligned, seek-inv, align-in
 use Rattle.wire.proofs.Numbers.{read-past, read-aligned}
 use Rattle.kinds.specs.Kinds.{alignOf, storedOf}
 use Rattle.table.specs.declared.rows.Row.{Row}
-use Rattle.table.specs.Rows.{row, width, capacity, room, putRow, Filled}
+use Rattle.table.specs.Rows.{row, width, capacity, room}
+use Rattle.table.specs.Code.Rows.{putRow, Filled}
 use Rattle.table.proofs.Filling.{filled-none, filled-one, filled-then}
 use Rattle.table.specs.Outcome.{Outcome, read, roomFor, prepend, andThen}
 use Rattle.table.proofs.Outcomes.{is-read, then-read}

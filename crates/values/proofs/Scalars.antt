@@ -19,7 +19,8 @@ use Rattle.wire.specs.declared.number.Float128.{Float128}
 use Rattle.wire.specs.declared.number.Float128.the-variants as float128
 use Rattle.wire.specs.declared.number.Boolean.{Boolean}
 use Rattle.wire.specs.declared.number.Boolean.the-variants as boolean
-use Rattle.wire.specs.Number.{readNumber, readFloat128, readBoolean, ReadIs}
+use Rattle.wire.specs.Number.{readNumber, readFloat128, readBoolean}
+use Rattle.wire.specs.Code.Reads.{ReadIs}
 use Rattle.wire.specs.Signed.{extended}
 use Rattle.kinds.specs.Kinds.{alignOf, storedOf, isPrimitive, isSigned}
 use Rattle.kinds.proofs.Table.{primitive-align, own-stored}
@@ -30,8 +31,9 @@ use Rattle.table.specs.declared.rows.Row.{Row}
 use Rattle.table.specs.declared.out.Refusal.the-variants.{InvalidData, Unsupported, NoRoom}
 use Rattle.table.specs.declared.out.Out.{Out}
 use Rattle.table.specs.declared.out.Out.the-variants.{Read, Short, Refused}
-use Rattle.table.specs.Rows.{row, room, noRoom, putRow}
-use Rattle.table.specs.Outcome.{Done}
+use Rattle.table.specs.Rows.{row, room, noRoom}
+use Rattle.table.specs.Code.Rows.{putRow}
+use Rattle.table.specs.Code.Outcome.{Done}
 use Rattle.table.proofs.Filling.{filled-none, filled-one, full-fits}
 use Rattle.table.proofs.Outcomes.{is-read, is-short, is-refused, no-room, some-room}
 use Rattle.values.specs.Scalar.{rowed, boolWord, onBoolean, onFloat128, wordOf, onNumber, onText, scalarOf, enumOf}

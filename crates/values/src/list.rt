@@ -1,6 +1,6 @@
 // Lists of values that open nothing.
 ghost use Rattle.table.specs.Rows.{room};
-ghost use Rattle.table.specs.Outcome.{Done};
+ghost use Rattle.table.specs.Code.Outcome.{Done};
 ghost use Rattle.values.specs.Scalar.{scalarOf};
 ghost use Rattle.values.specs.List.{elementsFrom, listOf, blockOf, primitivesOf, bitmasksOrTextsOf};
 ghost use Rattle.values.specs.Code.Quick.{Quickly};

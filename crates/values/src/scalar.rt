@@ -3,7 +3,7 @@ ghost use mathlib.Core.Path.{_≡_};
 ghost use Prim.Native.Nat.{_≤_, _<_, _^_};
 ghost use Rattle.kinds.specs.Kinds.{alignOf, storedOf};
 ghost use Rattle.table.specs.Rows.{room};
-ghost use Rattle.table.specs.Outcome.{Done};
+ghost use Rattle.table.specs.Code.Outcome.{Done};
 ghost use Rattle.wire.specs.Number.{readBoolean, readFloat128, readNumber};
 ghost use Rattle.values.specs.Scalar.{rowed, boolWord, onBoolean, onFloat128, wordOf, onNumber, onText, scalarOf, enumOf};
 use kinds::names::BOOLEAN;

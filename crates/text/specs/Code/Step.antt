@@ -38,7 +38,7 @@ after (step.Next w) xs = restGood table37 xs (wants w)
 
 -- the bytes from r on end well, with these ranges wanted, exactly when those from a place before it do
 pub record Passed (s : List ℕ) (rs : List Range) (at r : ℕ) : Type 0 where
-  pub onward : at ≤ r
+  pub beyond : at ≤ r
   pub inside : r ≤ length s
   pub same : restGood table37 (drop r s) rs ≡ restGood table37 (drop at s) rs
 

@@ -13,9 +13,11 @@ use Rattle.wire.specs.Place.{cursorAt}
 use Rattle.wire.specs.Number.{numberAt}
 use Rattle.kinds.specs.Kinds.{alignOf, storedOf}
 use Rattle.table.specs.declared.rows.Row.{Row}
-use Rattle.table.specs.Rows.{row, putRow, capacity}
+use Rattle.table.specs.Rows.{row, capacity}
+use Rattle.table.specs.Code.Rows.{putRow}
 use Rattle.table.specs.declared.out.Out.the-variants.{Read}
-use Rattle.table.specs.Outcome.{Outcome, Done}
+use Rattle.table.specs.Outcome.{Outcome}
+use Rattle.table.specs.Code.Outcome.{Done}
 use Rattle.values.specs.Scalar.{scalarOf, rowed, wordOf}
 use Rattle.values.specs.declared.quick.Word.{Word}
 
