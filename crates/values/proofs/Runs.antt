@@ -134,32 +134,29 @@ module _ (s t : List ℕ) (w count p n : ℕ) where
   is-there e r is cap wide some inside place bytes rows (suc x) at =
       (omega (arith, eqb-false count 0 (neither-first (eqb count 0) (ltb 0xFFFFFFFF count) some)), at, omega arith, omega arith)
 
-  pub there-sum : length s < 2 ^ 64 → (e : ℕ) → e ≡ length s → p ≤ e → count * w ≤ e - p → Fits w64 (p + count * w)
-  there-sum k e is inside bytes = omega arith
-
   record There (x : ℕ) : Type 0 where
     some : 0 < count
     at : x ≡ p + count * w
     inside : p + count * w ≤ length s
     place : n + count ≤ capacity t
 
-  told : (x : ℕ) → WhereThere s t w count p n x → 0 < x → There x
+  there-of : (x : ℕ) → WhereThere s t w count p n x → 0 < x → There x
   unfolding WhereThere
-  told zero h l = absurd (omega arith)
-  told (suc x) h l = record { some = h .0; at = h .1; inside = h .2; place = h .3 }
+  there-of zero h l = absurd (omega arith)
+  there-of (suc x) h l = record { some = h .0; at = h .1; inside = h .2; place = h .3 }
 
   module _ (x : ℕ) (h : WhereThere s t w count p n x) (yes : 0 < x) where
     pub there-some : 0 < count
-    there-some = told x h yes .some
+    there-some = there-of x h yes .some
 
     pub there-at : x ≡ p + count * w
-    there-at = told x h yes .at
+    there-at = there-of x h yes .at
 
     pub there-inside : p + count * w ≤ length s
-    there-inside = told x h yes .inside
+    there-inside = there-of x h yes .inside
 
     pub there-place : n + count ≤ capacity t
-    there-place = told x h yes .place
+    there-place = there-of x h yes .place
 
 -- what the test for a number says
 module _ (kind : ℕ) (b : Bool) (is : b ≡ isNumber kind) (yes : not b ≡ false) where

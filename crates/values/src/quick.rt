@@ -134,7 +134,7 @@ pub fn text_at(s: &[u8], set: Settings, t: &mut [u64], id: u64, at: Cursor, n: u
     start + size
 }
 
-// A value of this kind. It is looked for in the order of how many there are of each.
+// A value of this kind: most are numbers, which are read by the width that the table says.
 pub fn value_at(
     s: &[u8],
     set: Settings,

@@ -16,7 +16,7 @@ returns : tie.Need-returns
 returns c = search (needs, dheader-none, dheader-past)
 
 returns-2 : tie.Need-returns-2
-returns-2 c = search (needs, dheader-none, dheader-past)
+returns-2 c = search (needs, dheader-past)
 
 pub after-dheader-spec : {M : Type 1} → statement M
 after-dheader-spec =

@@ -16,7 +16,7 @@ new-requires : tie.Need-new-requires
 new-requires c κs = search needs
 
 returns : tie.Need-returns
-returns c = search (needs, four-there, four-past, four-short)
+returns c = search (needs, four-there, four-past)
 
 read-number-requires : tie.Need-read-number-requires
 read-number-requires c κs = search needs
@@ -28,10 +28,10 @@ enum-known-x : tie.Need-enum-known-x
 enum-known-x c = search needs
 
 returns-2 : tie.Need-returns-2
-returns-2 c = search (needs, four-there, four-past, four-short)
+returns-2 c = search (needs, four-there, four-past)
 
 returns-3 : tie.Need-returns-3
-returns-3 c = search (needs, four-there, four-past, four-short)
+returns-3 c = search (needs, four-short)
 
 pub past-four-spec : {M : Type 1} → statement M
 past-four-spec =

@@ -13,7 +13,7 @@ enum-known-x : tie.Need-enum-known-x
 enum-known-x c = search needs
 
 returns : tie.Need-returns
-returns c = search (needs, unheard-past, unheard-short)
+returns c = search (needs, unheard-past)
 
 returns-2 : tie.Need-returns-2
 returns-2 c = search (needs, unheard-past, unheard-short)

@@ -12,7 +12,7 @@ same-length : tie.Need-same-length
 same-length c = search needs
 
 returns : tie.Need-returns
-returns c = search (needs, list-full, list-rows, full-fits, row-next)
+returns c = search (needs, list-full, list-rows)
 
 stored-of-requires : tie.Need-stored-of-requires
 stored-of-requires c κs = search needs
@@ -27,10 +27,10 @@ cast-t17 : tie.Need-cast-t17
 cast-t17 c = search needs
 
 put-row-requires : tie.Need-put-row-requires
-put-row-requires c κs = search (needs, list-full, list-rows, full-fits, row-next)
+put-row-requires c κs = search (needs, full-fits)
 
 add-elements : tie.Need-add-elements
-add-elements c = search (needs, list-full, list-rows, full-fits, row-next)
+add-elements c = search (needs, row-next)
 
 elements-requires : tie.Need-elements-requires
 elements-requires c κs = search needs
@@ -39,7 +39,7 @@ same-length-2 : tie.Need-same-length-2
 same-length-2 c = search needs
 
 returns-2 : tie.Need-returns-2
-returns-2 c = search (needs, list-full, list-rows, full-fits, row-next)
+returns-2 c = search (needs, list-rows)
 
 pub list-spec : {M : Type 1} → statement M
 list-spec =

@@ -10,19 +10,19 @@ same-length : tie.Need-same-length
 same-length c = search needs
 
 returns : tie.Need-returns
-returns c = search (needs, is-free, quick-not, quick-kind)
+returns c = search (needs, quick-not)
 
 text-at-requires : tie.Need-text-at-requires
-text-at-requires c κs = search (needs, is-free, quick-not, quick-kind)
+text-at-requires c κs = search (needs, is-free)
 
 same-length-2 : tie.Need-same-length-2
 same-length-2 c = search needs
 
 returns-2 : tie.Need-returns-2
-returns-2 c = search (needs, is-free, quick-not, quick-kind)
+returns-2 c = search (needs, quick-kind)
 
 returns-3 : tie.Need-returns-3
-returns-3 c = search (needs, is-free, quick-not, quick-kind)
+returns-3 c = search (needs, quick-not)
 
 pub text-element-spec : {M : Type 1} → statement M
 text-element-spec =

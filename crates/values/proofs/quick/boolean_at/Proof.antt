@@ -4,7 +4,7 @@ use Rattle.values.proofs.quick.boolean_at.Statement.{statement}
 use Rattle.values.proofs.quick.boolean_at.Tie as tie
 
 returns : tie.Need-returns
-returns c = search (needs, quick-boolean, quick-not, free-fits)
+returns c = search (needs, quick-not)
 
 shared-slice-read-wide : tie.Need-shared-slice-read-wide
 shared-slice-read-wide c = search needs
@@ -13,7 +13,7 @@ wide-requires : tie.Need-wide-requires
 wide-requires c κs = search needs
 
 returns-2 : tie.Need-returns-2
-returns-2 c = search (needs, quick-boolean, quick-not, free-fits)
+returns-2 c = search (needs, quick-not)
 
 stored-of-requires : tie.Need-stored-of-requires
 stored-of-requires c κs = search needs
@@ -22,7 +22,7 @@ cast-t14 : tie.Need-cast-t14
 cast-t14 c = search needs
 
 put-row-requires : tie.Need-put-row-requires
-put-row-requires c κs = search (needs, quick-boolean, quick-not, free-fits)
+put-row-requires c κs = search (needs, free-fits)
 
 add-result : tie.Need-add-result
 add-result c = search needs
@@ -31,7 +31,7 @@ same-length : tie.Need-same-length
 same-length c = search needs
 
 returns-3 : tie.Need-returns-3
-returns-3 c = search (needs, quick-boolean, quick-not, free-fits)
+returns-3 c = search (needs, quick-boolean)
 
 pub boolean-at-spec : {M : Type 1} → statement M
 boolean-at-spec =

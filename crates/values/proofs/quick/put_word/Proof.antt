@@ -4,7 +4,7 @@ use Rattle.values.proofs.quick.put_word.Statement.{statement}
 use Rattle.values.proofs.quick.put_word.Tie as tie
 
 returns : tie.Need-returns
-returns c = search (needs, free-fits, put-none, put-word)
+returns c = search (needs, put-none)
 
 stored-of-requires : tie.Need-stored-of-requires
 stored-of-requires c κs = search needs
@@ -13,13 +13,13 @@ cast-t10 : tie.Need-cast-t10
 cast-t10 c = search needs
 
 put-row-requires : tie.Need-put-row-requires
-put-row-requires c κs = search (needs, free-fits, put-none, put-word)
+put-row-requires c κs = search (needs, free-fits)
 
 same-length : tie.Need-same-length
 same-length c = search needs
 
 returns-2 : tie.Need-returns-2
-returns-2 c = search (needs, free-fits, put-none, put-word)
+returns-2 c = search (needs, put-word)
 
 pub put-word-spec : {M : Type 1} → statement M
 put-word-spec =

@@ -11,7 +11,7 @@ add-if1 : tie.Need-add-if1
 add-if1 c = search needs
 
 returns : tie.Need-returns
-returns c = search (needs, quick-text, quick-not, free-fits)
+returns c = search (needs, quick-not)
 
 from-bytes-requires : tie.Need-from-bytes-requires
 from-bytes-requires c κs = search needs
@@ -20,13 +20,13 @@ add-start : tie.Need-add-start
 add-start c = search needs
 
 returns-2 : tie.Need-returns-2
-returns-2 c = search (needs, quick-text, quick-not, free-fits)
+returns-2 c = search (needs, quick-not)
 
 sub-if3 : tie.Need-sub-if3
 sub-if3 c = search needs
 
 returns-3 : tie.Need-returns-3
-returns-3 c = search (needs, quick-text, quick-not, free-fits)
+returns-3 c = search (needs, quick-not)
 
 sub-is-text : tie.Need-sub-is-text
 sub-is-text c = search needs
@@ -35,7 +35,7 @@ is-text-requires : tie.Need-is-text-requires
 is-text-requires c κs = search needs
 
 returns-4 : tie.Need-returns-4
-returns-4 c = search (needs, quick-text, quick-not, free-fits)
+returns-4 c = search (needs, quick-not)
 
 stored-of-requires : tie.Need-stored-of-requires
 stored-of-requires c κs = search needs
@@ -47,7 +47,7 @@ sub-t14 : tie.Need-sub-t14
 sub-t14 c = search needs
 
 put-row-requires : tie.Need-put-row-requires
-put-row-requires c κs = search (needs, quick-text, quick-not, free-fits)
+put-row-requires c κs = search (needs, free-fits)
 
 add-result : tie.Need-add-result
 add-result c = search needs

@@ -31,13 +31,13 @@ same-length : tie.Need-same-length
 same-length c = search needs
 
 returns : tie.Need-returns
-returns c = search (needs, boolean-row, boolean-bad, boolean-short)
+returns c = search (needs, boolean-row)
 
 returns-2 : tie.Need-returns-2
-returns-2 c = search (needs, boolean-row, boolean-bad, boolean-short)
+returns-2 c = search (needs, boolean-row, boolean-bad)
 
 returns-3 : tie.Need-returns-3
-returns-3 c = search (needs, boolean-row, boolean-bad, boolean-short)
+returns-3 c = search (needs, boolean-row, boolean-short)
 
 pub boolean-spec : {M : Type 1} → statement M
 boolean-spec =

@@ -25,7 +25,7 @@ same-length : tie.Need-same-length
 same-length c = search needs
 
 returns : tie.Need-returns
-returns c = search (needs, float128-row, float128-short)
+returns c = search (needs, float128-row)
 
 returns-2 : tie.Need-returns-2
 returns-2 c = search (needs, float128-row, float128-short)

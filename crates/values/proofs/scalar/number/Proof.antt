@@ -22,7 +22,7 @@ cast-t17 : tie.Need-cast-t17
 cast-t17 c = search needs
 
 word-of-requires : tie.Need-word-of-requires
-word-of-requires c κs = search (needs, width-some, width-most, number-below, number-row, number-short)
+word-of-requires c κs = search (needs, width-some, width-most, number-below)
 
 give-row-requires : tie.Need-give-row-requires
 give-row-requires c κs = search needs
@@ -34,10 +34,10 @@ same-length : tie.Need-same-length
 same-length c = search needs
 
 returns : tie.Need-returns
-returns c = search (needs, width-some, width-most, number-below, number-row, number-short)
+returns c = search (needs, number-row)
 
 returns-2 : tie.Need-returns-2
-returns-2 c = search (needs, width-some, width-most, number-below, number-row, number-short)
+returns-2 c = search (needs, number-row, number-short)
 
 pub number-spec : {M : Type 1} → statement M
 number-spec =

@@ -25,13 +25,13 @@ same-length : tie.Need-same-length
 same-length c = search needs
 
 returns : tie.Need-returns
-returns c = search (needs, text-row, text-bad, text-short)
+returns c = search (needs, text-row)
 
 returns-2 : tie.Need-returns-2
-returns-2 c = search (needs, text-row, text-bad, text-short)
+returns-2 c = search (needs, text-row, text-bad)
 
 returns-3 : tie.Need-returns-3
-returns-3 c = search (needs, text-row, text-bad, text-short)
+returns-3 c = search (needs, text-row, text-short)
 
 pub text-row-spec : {M : Type 1} → statement M
 text-row-spec =
