@@ -9,14 +9,16 @@ use mir.Syntax.{w64}
 use mir.Val.{Fits}
 use lib.ListN.{length}
 use lib.Dec.{eqb}
-use Rattle.ground.specs.Choice.{among}
+use borrow.Author.Tests.{ne-eqb}
+use Rattle.ground.specs.Choice.{pick, among}
+use Rattle.ground.proofs.Tests.{apart, inside}
 use Rattle.wire.specs.declared.cursor.Cursor.{Cursor}
 use Rattle.wire.specs.declared.cursor.Shortage.{Shortage}
 use Rattle.wire.specs.declared.cursor.Place.{Place}
 use Rattle.wire.specs.declared.cursor.Place.the-variants as place
 use Rattle.wire.specs.declared.settings.Settings.{Settings}
 use Rattle.wire.specs.Place.{cursorAt, seekTo}
-use Rattle.kinds.specs.Kinds.{storedOf}
+use Rattle.kinds.specs.Kinds.{storedOf, isPrimitive}
 use Rattle.kinds.proofs.Table.{sequence-stored}
 use Rattle.table.specs.declared.out.Refusal.{Refusal}
 use Rattle.table.specs.declared.out.Refusal.the-variants.{NoRoom}
@@ -125,6 +127,25 @@ module _ (s : List ℕ) (set : Settings) (kind id count : ℕ) (c : Cursor) (roo
   pub others-list : bitmasksOrTextsOf s set kind id count c room ≡ listOf s set kind id count c room
   unfolding bitmasksOrTextsOf
   others-list = refl
+
+-- bytes are primitives
+bytes-primitive : (kind : ℕ) → isPrimitive kind ≡ false → among (2 ∷ 13 ∷ []) kind ≡ false
+unfolding isPrimitive
+bytes-primitive kind h =
+    let no-2 : kind ≡ 2 → ⊥ = λ e. apart (sym h ∙ inside 1 15 kind (omega (arith, e)) (omega (arith, e))) in
+    let no-13 : kind ≡ 13 → ⊥ = λ e. apart (sym h ∙ inside 1 15 kind (omega (arith, e)) (omega (arith, e))) in
+    rw (ne-eqb kind 2 no-2, ne-eqb kind 13 no-13)
+
+-- a list by its elements' kind, and by the kind that they are read as, which is a primitive's own: what the two definitions come to
+pub list-by-kind : (s : List ℕ) (set : Settings) (kind read-as id count : ℕ) (c : Cursor) (room : ℕ) → (isPrimitive kind ≡ true → read-as ≡ kind)
+    → pick (isPrimitive kind) (primitivesOf s set kind id count c room) (bitmasksOrTextsOf s set read-as id count c room) ≡ pick (among (2 ∷ 13 ∷ []) kind) (blockOf s set kind id count c room) (listOf s set read-as id count c room)
+unfolding primitivesOf bitmasksOrTextsOf
+list-by-kind s set kind read-as id count c room own = go (isPrimitive kind) refl
+  where
+    go : (p : Bool) → isPrimitive kind ≡ p
+        → pick p (primitivesOf s set kind id count c room) (bitmasksOrTextsOf s set read-as id count c room) ≡ pick (among (2 ∷ 13 ∷ []) kind) (blockOf s set kind id count c room) (listOf s set read-as id count c room)
+    go true e = rw (own e)
+    go false e = rw (bytes-primitive kind e)
 
 -- the code's test
 module _ (s : List ℕ) (set : Settings) (kind id count : ℕ) (c : Cursor) (t : List ℕ) (n : ℕ) (u : List ℕ) (r : Out) where

@@ -30,11 +30,12 @@ onBlock (place.At d) o = o
 unfoldable pub blockOf : List ℕ → Settings → ℕ → ℕ → ℕ → Cursor → ℕ → Outcome
 blockOf s set kind id count c room = onBlock (seekTo s c count) (listOf s set kind id count c room)
 
--- a list of primitives, by their kind
+-- a list of primitives, by their kind: "a list's row after its length (for BYTE and UINT8, after its bytes)"
 unfoldable pub primitivesOf : List ℕ → Settings → ℕ → ℕ → ℕ → Cursor → ℕ → Outcome
 primitivesOf s set kind id count c room =
     pick (among (2 ∷ 13 ∷ []) kind) (blockOf s set kind id count c room) (listOf s set kind id count c room)
 
--- a list of bitmasks or of texts, by the kind that they are read as: "A bitmask is 13, 6, 7 or 8 by bound", and its list is none of BYTE or UINT8
+-- a list of bitmasks or of texts, by the kind that they are read as. "ENUM and BITMASK count so", as non-primitives: a list of bitmasks is no list of
+-- BYTE or UINT8, though "A bitmask is 13, 6, 7 or 8 by bound"
 unfoldable pub bitmasksOrTextsOf : List ℕ → Settings → ℕ → ℕ → ℕ → Cursor → ℕ → Outcome
 bitmasksOrTextsOf s set kind id count c room = listOf s set kind id count c room
