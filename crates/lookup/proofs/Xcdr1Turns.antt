@@ -8,7 +8,8 @@ use native.Mathlib.Omega.{arith}
 use lib.Dec.{eqb}
 use borrow.Author.Tests.{eq-eqb, ne-eqb}
 use Rattle.ground.proofs.Tests.{and-both}
-use Rattle.wire.specs.Number.{readNumber, ReadIs, afterNumber}
+use Rattle.wire.specs.Number.{readNumber, afterNumber}
+use Rattle.wire.specs.Code.Reads.{ReadIs}
 use Rattle.wire.specs.declared.settings.Settings.{Settings}
 use Rattle.wire.specs.declared.cursor.Cursor.{Cursor}
 use Rattle.wire.specs.declared.cursor.Shortage.{Shortage}

@@ -11,7 +11,8 @@ use lib.Dec.{eqb, ltb}
 use borrow.Author.Tests.{eq-eqb, ne-eqb, lt-ltb, le-ltb}
 use Rattle.ground.specs.Choice.{pick}
 use Rattle.wire.specs.Place.{cursorAt}
-use Rattle.wire.specs.Number.{readNumber, ReadIs, afterNumber}
+use Rattle.wire.specs.Number.{readNumber, afterNumber}
+use Rattle.wire.specs.Code.Reads.{ReadIs}
 use Rattle.wire.specs.declared.settings.Settings.{Settings}
 use Rattle.wire.specs.declared.cursor.Cursor.{Cursor}
 use Rattle.wire.specs.declared.cursor.Shortage.{Shortage}

@@ -8,8 +8,7 @@ use borrow.Author.Tests.{eq-eqb, ne-eqb}
 use Rattle.ground.proofs.Tests.{and-both}
 use Rattle.wire.specs.declared.settings.Version.{Version}
 use Rattle.wire.specs.declared.settings.Version.the-variants.{Xcdr1, Xcdr2}
-use Rattle.kinds.specs.declared.Entry.{Entry}
-use Rattle.kinds.specs.Kinds.{elementSizeOf, entryOf, isPrimitive, bitmaskStored}
+use Rattle.kinds.specs.Kinds.{elementSizeOf, isPrimitive, bitmaskStored}
 use Rattle.kinds.proofs.Table.{element-some}
 use Rattle.book.specs.Types.{BookType, Member, byte, quad, typeOf, bounded, typeNo}
 use Rattle.book.specs.Places.{from, typeAt, typesBy, PlaceOf}
@@ -64,11 +63,11 @@ module _ (b index : List ℕ) (t : BookType) (ty q k : ℕ) (element : ty ≡ t 
   unfolding primitiveElement
   primitive-is r e = e ∙ ap isPrimitive element-kind
 
-  pub count-is : (x : Entry) → x ≡ entryOf k → (length : ℕ) → length / x .element ≡ elementCount (typesBy b index) t length
+  pub count-is : (x : ℕ) → x ≡ elementSizeOf k → (length : ℕ) → length / x ≡ elementCount (typesBy b index) t length
   unfolding elementCount
   count-is x e length = rw e (ap (λ (n : ℕ). length / elementSizeOf n) element-kind)
 
-pub size-some : (k : ℕ) (x : Entry) → x ≡ entryOf k → 0 < x .element
+pub size-some : (k x : ℕ) → x ≡ elementSizeOf k → 0 < x
 size-some k x e = rw e (element-some k)
 
 module _ (v : Version) (types : List BookType) (t : BookType) where

@@ -24,7 +24,8 @@ use Rattle.book.specs.Types.{BookType}
 use Rattle.book.specs.Places.{typeAt}
 use Rattle.lookup.specs.Xcdr1.{seekToSentinel}
 use Rattle.table.specs.declared.out.Out.the-variants as out
-use Rattle.table.specs.Outcome.{read, Done}
+use Rattle.table.specs.Outcome.{read}
+use Rattle.table.specs.Code.Outcome.{Done}
 use Rattle.table.proofs.Filling.{filled-none}
 use Rattle.table.proofs.Outcomes.{is-read, is-short}
 use Rattle.reader.specs.Nested.{isMutable, isStructure, isDelimited, unheard, heardIf, beginningOf, endingBy}

@@ -41,10 +41,11 @@ use Rattle.table.specs.declared.out.Refusal.{Refusal}
 use Rattle.table.specs.declared.out.Out.{Out}
 use Rattle.table.specs.declared.out.Out.the-variants.{Read, Short, Refused}
 use Rattle.table.specs.Rows.{room}
-use Rattle.table.specs.Outcome.{Outcome, read, short, refused, prepend, andThen, backTo, Done}
+use Rattle.table.specs.Outcome.{Outcome, read, short, refused, prepend, andThen, backTo}
+use Rattle.table.specs.Code.Outcome.{Done}
 use Rattle.table.proofs.Filling.{filled-none, room-used}
 use Rattle.table.proofs.Outcomes.{is-read, is-short, is-refused, is-same, is-after, was-read, was-short, was-refused, then-read, then-short, then-refused, prepend-nil, prepend-then, Sofar, sofar-start, sofar-more, sofar-short, sofar-refused}
-use Rattle.values.specs.Quick.{Quickly}
+use Rattle.values.specs.Code.Quick.{Quickly}
 use Rattle.values.proofs.Quickly.{quick-done, quick-none, quick-next}
 use Rattle.reader.specs.Value.{Nest}
 use Rattle.reader.specs.Member.{foundOf, onLocated, mmemberOf}

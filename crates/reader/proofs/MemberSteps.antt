@@ -13,7 +13,8 @@ use Rattle.table.specs.declared.out.Refusal.{Refusal}
 use Rattle.table.specs.declared.out.Out.{Out}
 use Rattle.table.specs.declared.out.Out.the-variants.{Read, Short, Refused}
 use Rattle.table.specs.Rows.{room}
-use Rattle.table.specs.Outcome.{Outcome, short, backTo, Done}
+use Rattle.table.specs.Outcome.{Outcome, short, backTo}
+use Rattle.table.specs.Code.Outcome.{Done}
 use Rattle.table.proofs.Filling.{filled-none}
 use Rattle.table.proofs.Outcomes.{is-read, is-short, is-refused, is-same, was-read, was-short, was-refused}
 use Rattle.wire.specs.declared.settings.Version.{Version}

@@ -13,8 +13,10 @@ use Rattle.wire.specs.declared.settings.Settings.{Settings}
 use Rattle.table.specs.declared.out.Refusal.{Refusal}
 use Rattle.table.specs.declared.out.Out.{Out}
 use Rattle.table.specs.declared.out.Out.the-variants.{Read, Short, Refused}
-use Rattle.table.specs.Rows.{row, width, room, noRoom, putRow}
-use Rattle.table.specs.Outcome.{Outcome, refused, roomFor, closed, andThen, Done}
+use Rattle.table.specs.Rows.{row, width, room, noRoom}
+use Rattle.table.specs.Code.Rows.{putRow}
+use Rattle.table.specs.Outcome.{Outcome, refused, roomFor, closed, andThen}
+use Rattle.table.specs.Code.Outcome.{Done}
 use Rattle.table.proofs.Filling.{filled-none, full-fits}
 use Rattle.table.proofs.Outcomes.{is-short, is-refused, is-same, then-nil, row-full, row-read, row-short, row-refused}
 use Rattle.wire.specs.declared.dheader.Contents.{Contents}

@@ -25,7 +25,7 @@ use Rattle.lookup.specs.Code.Ahead.{HeaderAhead}
 use Rattle.table.specs.Rows.{room}
 use Rattle.table.specs.Outcome.{read}
 use Rattle.values.specs.Scalar.{scalarOf}
-use Rattle.values.specs.Quick.{isTaken, Quickly}
+use Rattle.values.specs.Code.Quick.{isTaken, Quickly}
 use Rattle.values.proofs.Quickly.{quick-not, quick-as, quick-next}
 use Rattle.reader.specs.Value.{Nest, isSequence, primitiveElement, readAs, valueOf}
 use Rattle.reader.specs.Member.{byLength, foundBy, foundOf, fmemberBy, fmemberOf}

@@ -16,7 +16,8 @@ use Rattle.table.specs.declared.out.Refusal.{Refusal}
 use Rattle.table.specs.declared.out.Out.{Out}
 use Rattle.table.specs.declared.out.Out.the-variants.{Read, Short, Refused}
 use Rattle.table.specs.Rows.{room}
-use Rattle.table.specs.Outcome.{Outcome, read, short, refused, prepend, andThen, Done}
+use Rattle.table.specs.Outcome.{Outcome, read, short, refused, prepend, andThen}
+use Rattle.table.specs.Code.Outcome.{Done}
 use Rattle.table.proofs.Filling.{filled-none}
 use Rattle.table.proofs.Outcomes.{is-same, then-nil, Sofar, sofar-start, sofar-read, turn-read, turn-short, turn-refused}
 use Rattle.reader.specs.Value.{Nest, openedFrom}

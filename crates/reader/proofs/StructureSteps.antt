@@ -13,7 +13,8 @@ use Rattle.table.specs.declared.out.Refusal.{Refusal}
 use Rattle.table.specs.declared.out.Out.{Out}
 use Rattle.table.specs.declared.out.Out.the-variants.{Read, Short, Refused}
 use Rattle.table.specs.Rows.{room}
-use Rattle.table.specs.Outcome.{Outcome, prepend, orEndIf, Done}
+use Rattle.table.specs.Outcome.{Outcome, prepend, orEndIf}
+use Rattle.table.specs.Code.Outcome.{Done}
 use Rattle.table.proofs.Filling.{filled-none, room-used}
 use Rattle.table.proofs.Outcomes.{was-read, was-short, was-refused, end-read, end-ended, end-short, end-refused, Sofar, sofar-start, sofar-more, sofar-read, sofar-short, sofar-refused}
 use Rattle.wire.specs.Place.{cursorAt}
@@ -21,7 +22,7 @@ use Rattle.book.specs.declared.member.Run.{Run}
 use Rattle.book.specs.Types.{BookType, Member}
 use Rattle.book.specs.Places.{memberAt, typeAt, listed, later, Started, After}
 use Rattle.book.proofs.Places.{run-more, run-none}
-use Rattle.values.specs.Quick.{Quickly}
+use Rattle.values.specs.Code.Quick.{Quickly}
 use Rattle.values.proofs.Quickly.{quick-done, quick-none}
 use Rattle.reader.specs.Value.{Nest}
 use Rattle.reader.specs.Member.{fmemberOf}

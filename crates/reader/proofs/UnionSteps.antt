@@ -11,8 +11,10 @@ use Rattle.wire.specs.declared.settings.Settings.{Settings}
 use Rattle.table.specs.declared.out.Refusal.{Refusal}
 use Rattle.table.specs.declared.out.Out.{Out}
 use Rattle.table.specs.declared.out.Out.the-variants.{Read, Short, Refused}
-use Rattle.table.specs.Rows.{room, Filled}
-use Rattle.table.specs.Outcome.{Outcome, read, short, refused, prepend, Done}
+use Rattle.table.specs.Rows.{room}
+use Rattle.table.specs.Code.Rows.{Filled}
+use Rattle.table.specs.Outcome.{Outcome, read, short, refused, prepend}
+use Rattle.table.specs.Code.Outcome.{Done}
 use Rattle.table.proofs.Filling.{filled-none, room-used}
 use Rattle.table.proofs.Outcomes.{is-short, is-refused, is-same, is-after, was-read, was-short, was-refused}
 use mathlib.Core.Option.{Option, none, some}

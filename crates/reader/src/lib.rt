@@ -2,7 +2,7 @@
 // that is opened.
 ghost use Rattle.book.specs.Places.{typeAt, typesBy};
 ghost use Rattle.table.specs.Rows.{room};
-ghost use Rattle.table.specs.Outcome.{Done};
+ghost use Rattle.table.specs.Code.Outcome.{Done};
 ghost use Rattle.reader.specs.Nested.{reading};
 ghost use Rattle.reader.specs.Code.Cycle.{runIn, bodyIn};
 

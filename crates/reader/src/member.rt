@@ -1,7 +1,7 @@
 // A member: plain, optional, or found by its lookup.
 ghost use Rattle.book.specs.Places.{memberAt};
 ghost use Rattle.table.specs.Rows.{room};
-ghost use Rattle.table.specs.Outcome.{Done};
+ghost use Rattle.table.specs.Code.Outcome.{Done};
 ghost use Rattle.reader.specs.Code.Cycle.{foundIn, mmemberIn, optionalIn, fmemberIn};
 use crate::as_nested;
 use crate::types::by_length;

@@ -2,7 +2,7 @@
 ghost use Rattle.book.specs.Types.{typeNo};
 ghost use Rattle.book.specs.Places.{memberAt, typesBy};
 ghost use Rattle.table.specs.Rows.{room};
-ghost use Rattle.values.specs.Quick.{Quickly};
+ghost use Rattle.values.specs.Code.Quick.{Quickly};
 ghost use Rattle.reader.specs.Value.{Nest, readAs};
 ghost use Rattle.reader.specs.Member.{fmemberOf, foundOf};
 ghost use Prim.Native.Nat.{ℕ, _<_};
@@ -55,7 +55,7 @@ pub fn take(
         return 0;
     }
     let kind = kind_of(book, index, m.ty);
-    values::quick::take(s, set, t, kind, m.id as u64, c, n)
+    values::quick::value_at(s, set, t, kind, m.id as u64, c, n)
 }
 
 // The same for a member that was found, whose id is known.
@@ -78,7 +78,7 @@ pub fn take_found(
     }
     let m = head_there(book, p);
     let kind = kind_of(book, index, m.ty);
-    values::quick::take_found(s, set, t, kind, i, c, n)
+    values::quick::found_value_at(s, set, t, kind, i, c, n)
 }
 
 // What the header where the hint says tells of the member at p, if that is there whole: so no byte of it is asked for again.

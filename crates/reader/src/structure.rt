@@ -3,7 +3,7 @@ ghost use mathlib.Core.Path.{_≡_};
 ghost use mathlib.Core.List.{[]};
 ghost use Rattle.book.specs.Places.{memberAt, typeAt};
 ghost use Rattle.table.specs.Rows.{room};
-ghost use Rattle.table.specs.Outcome.{Done};
+ghost use Rattle.table.specs.Code.Outcome.{Done};
 ghost use Rattle.wire.specs.Place.{alignTo};
 ghost use Rattle.lookup.specs.Code.Ahead.{TrueHint};
 ghost use Rattle.reader.specs.Code.Cycle.{fmembersIn, mmembersIn, foundIn};

@@ -5,7 +5,7 @@ ghost use Rattle.reader.specs.Value.{isSequence, primitiveElement, readA
 ghost use Rattle.reader.specs.Member.{byLength, elementCount};
 ghost use Rattle.reader.specs.Structure.{absorbs};
 ghost use Rattle.reader.specs.Nested.{isMutable, beginningOf, endingBy};
-ghost use Rattle.table.specs.Outcome.{Done};
+ghost use Rattle.table.specs.Code.Outcome.{Done};
 ghost use mathlib.Core.List.{List};
 ghost use Prim.Native.Nat.{ℕ, _+_, _<_};
 ghost use lib.ListN.{length};
@@ -102,8 +102,7 @@ pub fn element_count(book: &[u8], index: &[u32], at: usize, length: u64) -> u64
     ensures { λ r. ⌜ r ≡ elementCount (typesBy (now (book .entry)) (now (index .entry))) (typeAt (now (book .entry)) at) length ⌝ }
 {
     let q = place(book, index, element(book, at));
-    let entry = kinds::of_kind(kind_at(book, q));
-    let size = entry.element;
+    let size = kinds::element_of(kind_at(book, q));
     length / (size as u64)
 }
 

@@ -1,7 +1,7 @@
 // Unions: the discriminator, and the member that it selects.
 ghost use Rattle.book.specs.Places.{typeAt, memberAt};
 ghost use Rattle.table.specs.Rows.{room};
-ghost use Rattle.table.specs.Outcome.{Done};
+ghost use Rattle.table.specs.Code.Outcome.{Done};
 ghost use Rattle.reader.specs.Code.Cycle.{unionIn, discriminatorIn, chosenIn};
 use crate::member::mmember;
 use crate::member::option;

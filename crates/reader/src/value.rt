@@ -1,7 +1,7 @@
 // A value by its type, and lists of values.
 ghost use Rattle.book.specs.Places.{typeAt};
 ghost use Rattle.table.specs.Rows.{room};
-ghost use Rattle.table.specs.Outcome.{Done};
+ghost use Rattle.table.specs.Code.Outcome.{Done};
 ghost use Rattle.reader.specs.Code.Cycle.{elementsIn, listIn, valueIn};
 use crate::as_nested;
 use crate::types::is_sequence;

@@ -14,8 +14,10 @@ use Rattle.table.specs.declared.rows.Row.{Row}
 use Rattle.table.specs.declared.out.Refusal.{Refusal}
 use Rattle.table.specs.declared.out.Out.{Out}
 use Rattle.table.specs.declared.out.Out.the-variants as out
-use Rattle.table.specs.Rows.{width, words, capacity, room, clearedFrom, Filled}
-use Rattle.table.specs.Outcome.{Outcome, read, refused, refusalNumber, numberOf, rowsOf, Done}
+use Rattle.table.specs.Rows.{width, words, capacity, room}
+use Rattle.table.specs.Code.Rows.{clearedFrom, Filled}
+use Rattle.table.specs.Outcome.{Outcome, read, refused, refusalNumber, numberOf, rowsOf}
+use Rattle.table.specs.Code.Outcome.{Done}
 use Rattle.table.proofs.Filling.{filled-fits}
 use Rattle.table.proofs.Outcomes.{was-read, was-short, was-refused}
 use Rattle.reader.specs.Nested.{nestedAt, reading}

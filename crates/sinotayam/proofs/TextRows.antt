@@ -12,7 +12,8 @@ use borrow.Author.Tests.{le-leb, eqb-true}
 use Rattle.ground.specs.Choice.{among}
 use Rattle.book.specs.Types.{BookType}
 use Rattle.table.specs.declared.rows.Row.{Row}
-use Rattle.table.specs.Rows.{row, width, words, rowAt, Filled}
+use Rattle.table.specs.Rows.{row, width, words, rowAt}
+use Rattle.table.specs.Code.Rows.{Filled}
 use Rattle.table.proofs.Filling.{length-words, filled-first, filled-rest}
 use Rattle.fit.specs.Shape.{Inside, Opened}
 use Rattle.fit.specs.Flat.{RowFits}

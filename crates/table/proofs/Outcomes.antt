@@ -13,8 +13,10 @@ use Rattle.table.specs.declared.out.Refusal.{Refusal}
 use Rattle.table.specs.declared.out.Refusal.the-variants.{NoRoom}
 use Rattle.table.specs.declared.out.Out.{Out}
 use Rattle.table.specs.declared.out.Out.the-variants.{Read, Short, Refused}
-use Rattle.table.specs.Rows.{row, room, noRoom, putRow, Filled}
-use Rattle.table.specs.Outcome.{Outcome, read, short, refused, roomFor, prepend, closed, andThen, orEndIf, answer, rowsOf, Done}
+use Rattle.table.specs.Rows.{row, room, noRoom}
+use Rattle.table.specs.Code.Rows.{putRow, Filled}
+use Rattle.table.specs.Outcome.{Outcome, read, short, refused, roomFor, prepend, closed, andThen, orEndIf, rowsOf}
+use Rattle.table.specs.Code.Outcome.{answer, Done}
 use Rattle.table.proofs.Filling.{filled-none, filled-then, filled-kept, filled-below, filled-row, full-none, full-more, full-fits, room-used}
 
 -- ---- what makes an answer right

@@ -10,7 +10,7 @@ use Rattle.wire.specs.declared.dheader.Contents.the-variants as contents
 use Rattle.wire.specs.declared.settings.Settings.{Settings}
 use Rattle.wire.specs.declared.number.Number.{Number}
 use Rattle.wire.specs.declared.number.Number.the-variants as number
-use Rattle.wire.specs.Number.{ReadIs}
+use Rattle.wire.specs.Code.Reads.{ReadIs}
 use Rattle.wire.specs.Dheader.{contentsAt}
 use Rattle.wire.proofs.Contents.{contents-short, contents-between}
 use Rattle.values.specs.Header.{countAt, countFrom}

@@ -6,7 +6,8 @@ use mathlib.Core.List.{List}
 use native.Mathlib.Omega.{arith}
 use lib.ListN.{length}
 use Rattle.wire.specs.Place.{cursorAt, alignmentOf, paddingOf, alignTo}
-use Rattle.wire.specs.Number.{numberAt, readNumber, ReadIs, afterNumber}
+use Rattle.wire.specs.Number.{numberAt, readNumber, afterNumber}
+use Rattle.wire.specs.Code.Reads.{ReadIs}
 use Rattle.wire.specs.Dheader.{dheaderAt, undelimited, delimitedBy, contentsAt, afterContents}
 use Rattle.wire.specs.declared.settings.Settings.{Settings}
 use Rattle.wire.specs.declared.settings.Version.{Version}

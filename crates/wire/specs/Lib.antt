@@ -3,3 +3,4 @@ pub mod Place
 pub mod Number
 pub mod Signed
 pub mod Dheader
+pub mod Code

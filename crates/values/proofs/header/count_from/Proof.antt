@@ -25,15 +25,15 @@ read-number-requires c κs = search needs
 
 -- src/header.rt:26:17
 returns : tie.Need-returns
-returns c = search (needs, count-short, count-sequence, count-array)
+returns c = search (needs, count-sequence)
 
 -- src/header.rt:12:1
 returns-2 : tie.Need-returns-2
-returns-2 c = search (needs, count-short, count-sequence, count-array)
+returns-2 c = search (needs, count-short, count-sequence)
 
 -- src/header.rt:12:1
 returns-3 : tie.Need-returns-3
-returns-3 c = search (needs, count-short, count-sequence, count-array)
+returns-3 c = search (needs, count-sequence, count-array)
 
 pub count-from-spec : {M : Type 1} → statement M
 count-from-spec =
