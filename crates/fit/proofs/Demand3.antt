@@ -16,11 +16,12 @@ use Rattle.book.specs.Rules.{bookOk}
 use Rattle.table.specs.declared.rows.Row.{Row}
 use Rattle.table.specs.Outcome.{Outcome, numberOf, refusalNumber, rowsOf}
 use Rattle.reader.specs.Nested.{reading}
-use Rattle.fit.specs.Fit.{Passes}
+use Rattle.fit.specs.Fit.{checkClauses, Passes}
 use Rattle.fit.specs.Shape as shape
 use Rattle.fit.specs.Shape.{Value, Opened, Elements, isScalar}
 use Rattle.fit.specs.Walk.{span, direct, InOrder}
-use Rattle.fit.specs.Check.{fits, checkOf}
+use Rattle.fit.specs.Check.{checkOf}
+use Rattle.fit.specs.Code.Check.{fits}
 use Rattle.fit.specs.Demand3.{Checked, fit, bad-book, bad-root, unfit, finished-reading, too-few-bytes, invalid-data, full-table, absent-discriminator, Untroubled}
 use Rattle.fit.proofs.Ends.{Ends, finished, wanting, broken, by-test}
 use Rattle.fit.proofs.Scalars.{Allowed, bad-data, no-room, no-discriminator}
@@ -36,11 +37,11 @@ check-says book root =
     let F : ℕ → Type 0 = Checked book root in
     by-test F (bookOk book) (λ good.
     by-test F (ltb root (typeCount book)) (λ low.
-    by-test F (fits (typesOf book) root) (λ e. fit good (ltb-true root (typeCount book) low) (fits-passes (typesOf book) root e)) (λ e.
-    unfit good (ltb-true root (typeCount book) low) (λ p. apart (sym e ∙ passes-fits (typesOf book) (links-down book good) root p))))
+    by-test F (fits checkClauses (typesOf book) root) (λ e. fit good (ltb-true root (typeCount book) low) (fits-passes checkClauses (typesOf book) root e)) (λ e.
+    unfit good (ltb-true root (typeCount book) low) (λ p. apart (sym e ∙ passes-fits checkClauses (typesOf book) (links-down book good) root p))))
     (λ out. bad-root good (ltb-false root (typeCount book) out))) (λ bad. bad-book bad)
 
-passing : {book : List ℕ} {root n : ℕ} → Checked book root n → n ≡ 0 → (bookOk book ≡ true) × Passes (typesOf book) root
+passing : {book : List ℕ} {root n : ℕ} → Checked book root n → n ≡ 0 → (bookOk book ≡ true) × Passes checkClauses (typesOf book) root
 passing (fit good low p) e = (good, p)
 passing (bad-book bad) e = absurd (omega arith)
 passing (bad-root good out) e = absurd (omega arith)

@@ -14,8 +14,9 @@ use Rattle.book.specs.Rules.{otherId, idOk, linkOk, flagsOk, constructOk, label
 use Rattle.table.specs.declared.rows.Row.{Row}
 use Rattle.table.specs.Rows.{row}
 use Rattle.reader.specs.Value.{readAs}
-use Rattle.fit.specs.Fit.{memberTypes, linksOf, memberSupported, membersSupported, elementSupported, baseSupported, chooses, firstChooses, discriminatorFits}
-use Rattle.fit.specs.Check.{clausesMet, longestFrom, withOwn, chainOf, chainsOf, fits, checkOf}
+use Rattle.fit.specs.Fit.{memberTypes, linksOf, memberSupported, membersSupported, elementSupported, baseSupported, chooses, firstChooses, discriminatorFits, checkClauses, meets}
+use Rattle.fit.specs.Check.{checkOf}
+use Rattle.fit.specs.Code.Check.{longestFrom, withOwn, chainOf, chainsOf, fits}
 use Rattle.fit.specs.Shape.{Value, Opened, storedKind}
 use Rattle.fit.specs.Walk.{extent, span, direct, InOrder, none-left, without, with}
 use Rattle.fit.proofs.Demand3.{rows-beneath, rows-in-order, array-size}
@@ -58,7 +59,7 @@ bitmask n = record { kind = 19; extensibility = 0; base = 0; boundFlag = 1; boun
 
 -- the last type of a book as the root
 abbrev fitsLast : List BookType → Bool
-fitsLast types = fits types (length types - 1)
+fitsLast types = fits checkClauses types (length types - 1)
 
 abbrev tail : {A : Type 0} → List A → List A
 tail [] = []
@@ -136,7 +137,7 @@ examples =
     every fitsLast passing
     ∷ every failsLast failing
     -- what is unfit and not reached does no harm
-    ∷ fits (enum 5 ∷ plain 15 ∷ plain 4 ∷ structure (2 ∷ []) ∷ []) 3
+    ∷ fits checkClauses (enum 5 ∷ plain 15 ∷ plain 4 ∷ structure (2 ∷ []) ∷ []) 3
     -- a chain of 16 passes, of 17 fails; an enum is counted, and a list is not
     ∷ fitsLast (enum 4 ∷ nestedIn 0 15)
     ∷ failsLast (enum 4 ∷ nestedIn 0 16)
@@ -146,7 +147,7 @@ examples =
     ∷ []
 
 each-holds : every (λ b. b) examples ≡ true
-unfolding fits chainsOf chainOf withOwn longestFrom clausesMet memberTypes linksOf memberSupported membersSupported elementSupported baseSupported chooses firstChooses discriminatorFits opens unsupportedMember unsupportedElement bitmaskStored storedByBound bounded every typeNo noType
+unfolding fits chainsOf chainOf withOwn longestFrom meets checkClauses memberTypes linksOf memberSupported membersSupported elementSupported baseSupported chooses firstChooses discriminatorFits opens unsupportedMember unsupportedElement bitmaskStored storedByBound bounded every typeNo noType
 each-holds = refl
 
 -- ---- what the shape rules out, for a structure of one INT32 member with id 0
@@ -219,5 +220,5 @@ book1 =
     ∷ 0 ∷ 0x17 ∷ 0x16 ∷ 0 ∷ 0 ∷ 0 ∷ 0 ∷ 0 ∷ 0 ∷ 0 ∷ 0xFF ∷ 0xFF ∷ 0 ∷ 1 ∷ 0 ∷ 0 ∷ 0 ∷ 7 ∷ 0 ∷ 0 ∷ 0 ∷ 1 ∷ 0 ∷ []
 
 answers : map (checkOf book1) (0 ∷ 1 ∷ 2 ∷ []) ++ checkOf [] 0 ∷ [] ≡ 16 ∷ 0 ∷ 9 ∷ 8 ∷ []
-unfolding checkOf fits chainsOf chainOf withOwn longestFrom clausesMet memberTypes linksOf memberSupported membersSupported elementSupported baseSupported chooses firstChooses discriminatorFits opens unsupportedMember unsupportedElement bitmaskStored storedByBound bounded every typeNo noType labelsOf memberOf pastMember membersOf typeOf pastType typesFrom typesOf default sizeOk versionOk typeCountOk headOk filled recordLengthOk kindOk extensibilityOk baseOk boundFlagOk codesOk arrayBoundOk boundOk boundsOk elementOk memberCountOk memberKindOk someMemberOk countOk ownOk otherId idOk linkOk flagsOk constructOk labelCountOk firstOfUnion firstIdOk firstKindOk firstDefaultOk firstLabelOk memberOk membersOk typeOk recordOk recordsOk bookOk
+unfolding checkOf fits chainsOf chainOf withOwn longestFrom meets checkClauses memberTypes linksOf memberSupported membersSupported elementSupported baseSupported chooses firstChooses discriminatorFits opens unsupportedMember unsupportedElement bitmaskStored storedByBound bounded every typeNo noType labelsOf memberOf pastMember membersOf typeOf pastType typesFrom typesOf default sizeOk versionOk typeCountOk headOk filled recordLengthOk kindOk extensibilityOk baseOk boundFlagOk codesOk arrayBoundOk boundOk boundsOk elementOk memberCountOk memberKindOk someMemberOk countOk ownOk otherId idOk linkOk flagsOk constructOk labelCountOk firstOfUnion firstIdOk firstKindOk firstDefaultOk firstLabelOk memberOk membersOk typeOk recordOk recordsOk bookOk
 answers = refl

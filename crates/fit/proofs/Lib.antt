@@ -2,10 +2,11 @@ pub mod Ends
 pub mod KindTests
 pub mod Scalars
 pub mod Unions
+pub mod Fits
 pub mod Settling
 pub mod Exact
 pub mod Books
-pub mod Asked
+pub mod ClauseTests
 pub mod Measuring
 pub mod Checking
 pub mod Walking

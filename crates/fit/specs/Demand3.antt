@@ -6,15 +6,15 @@ use mathlib.Core.List.{List}
 use Rattle.book.specs.Types.{BookType, typeCount, typesOf}
 use Rattle.book.specs.Rules.{bookOk}
 use Rattle.table.specs.Outcome.{Outcome, numberOf, rowsOf}
-use Rattle.fit.specs.Fit.{Passes}
+use Rattle.fit.specs.Fit.{checkClauses, Passes}
 use Rattle.fit.specs.Shape.{Opened}
 
 -- the check's number, with what it says: 0 passes, "Otherwise 8, 9, then 16."
 pub data Checked (book : List ℕ) (root : ℕ) : ℕ → Type 0 where
-  fit : bookOk book ≡ true → root < typeCount book → Passes (typesOf book) root → Checked book root 0
+  fit : bookOk book ≡ true → root < typeCount book → Passes checkClauses (typesOf book) root → Checked book root 0
   bad-book : bookOk book ≡ false → Checked book root 8
   bad-root : bookOk book ≡ true → typeCount book ≤ root → Checked book root 9
-  unfit : bookOk book ≡ true → root < typeCount book → (Passes (typesOf book) root → ⊥) → Checked book root 16
+  unfit : bookOk book ≡ true → root < typeCount book → (Passes checkClauses (typesOf book) root → ⊥) → Checked book root 16
 
 -- the numbers that are left for a reading of a type that the check passes
 pub data Told : ℕ → Type 0 where

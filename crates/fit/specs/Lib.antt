@@ -1,5 +1,6 @@
 pub mod Fit
 pub mod Shape
+pub mod Code
 pub mod Check
 pub mod Demand3
 pub mod Walk
