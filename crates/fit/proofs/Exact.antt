@@ -14,7 +14,8 @@ use Rattle.ground.specs.Choice.{both}
 use Rattle.ground.proofs.Tests.{apart, both-first, both-second}
 use Rattle.kinds.specs.Kinds.{opens}
 use Rattle.book.specs.Types.{BookType, typeNo}
-use Rattle.fit.specs.Fit.{OneOf, Reach, here, there, Chain, last, opened, passed, Clause, Fit, Passes, linksOf, meets}
+use Rattle.shape.specs.Shape.{OneOf}
+use Rattle.fit.specs.Fit.{Reach, here, there, Chain, last, opened, passed, Clause, Fit, Passes, linksOf, meets}
 use Rattle.fit.specs.Code.Check.{tooLong, longestFrom, withOwn, chainOf, chainsOf, fits}
 use Rattle.fit.proofs.Ends.{by-test}
 use Rattle.fit.proofs.Fits.{fit-next, fit-below}

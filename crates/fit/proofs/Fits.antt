@@ -8,7 +8,8 @@ use Rattle.ground.specs.Choice.{both, every}
 use Rattle.ground.proofs.Tests.{both-first, both-second}
 use Rattle.kinds.specs.Kinds.{opens}
 use Rattle.book.specs.Types.{BookType, typeNo}
-use Rattle.fit.specs.Fit.{OneOf, here, there, opened, passed, Clause, Fit, linksOf, meets, membersSupported, elementSupported, baseSupported, discriminatorFits, checkClauses}
+use Rattle.shape.specs.Shape.{OneOf}
+use Rattle.fit.specs.Fit.{here, there, opened, passed, Clause, Fit, linksOf, meets, membersSupported, elementSupported, baseSupported, discriminatorFits, checkClauses}
 
 -- what holds of each holds of one, and the other way round
 pub every-one : {A : Type 0} (f : A → Bool) (xs : List A) (x : A) → every f xs ≡ true → OneOf x xs → f x ≡ true

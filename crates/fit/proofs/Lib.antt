@@ -9,7 +9,5 @@ pub mod Books
 pub mod ClauseTests
 pub mod Measuring
 pub mod Checking
-pub mod Walking
-pub mod Flat
 pub mod Demand3
 mod Examples

@@ -27,7 +27,7 @@ use Rattle.table.specs.declared.out.Refusal.the-variants.{InvalidData, NoRoom, 
 use Rattle.table.specs.Rows.{row}
 use Rattle.table.specs.Outcome.{Outcome}
 use Rattle.values.specs.Scalar.{rowed, onBoolean, onFloat128, onNumber, onText, scalarOf}
-use Rattle.fit.specs.Shape.{Inside}
+use Rattle.shape.specs.Shape.{Inside}
 use Rattle.fit.proofs.Ends.{Ends, finished, wanting, broken, ends-room, by-test}
 use Rattle.fit.proofs.KindTests.{readable}
 

@@ -49,12 +49,13 @@ use Rattle.reader.specs.Structure.{absorbs, fmembersOf, mmembersOf, atSentinel,
 use Rattle.reader.specs.Union.{memberBy, discriminatorBy, onSelected, onDiscriminator, chosenOf, membersBy}
 use Rattle.reader.specs.Nested.{isMutable, contentsAt, asFinal, asMutable, bodyBy, bodyOf, openedIf, nestedAt}
 use Rattle.fit.specs.Fit as fit
-use Rattle.fit.specs.Fit.{OneOf, Fit, linksOf, memberTypes, memberSupported, membersSupported, elementSupported, baseSupported, chooses, firstChooses, discriminatorFits, checkClauses}
-use Rattle.fit.specs.Shape as shape
-use Rattle.fit.specs.Shape.{Value, Single, Elements, Opened, Beneath, Members, Held, storedKind}
+use Rattle.fit.specs.Fit.{Fit, linksOf, memberTypes, memberSupported, membersSupported, elementSupported, baseSupported, chooses, firstChooses, discriminatorFits, checkClauses}
+use Rattle.shape.specs.Shape as shape
+use Rattle.shape.specs.Shape.{OneOf, Value, Single, Elements, Opened, Beneath, Members, Held, storedKind}
+use Rattle.shape.proofs.Walking.{none-held}
 use Rattle.fit.proofs.Fits.{every-one, fit-next, fit-below, members-supported, element-supported, base-supported, discriminator-fits}
 use Rattle.fit.proofs.Ends.{finished, wanting, broken, ends-prepend, ends-then, ends-end, ends-room, ends-closed, ends-back, ends-as, ends-move, ends-number, by-test}
-use Rattle.fit.proofs.KindTests.{readable, member-readable, element-readable, scalar-kind, text-kind, opened-kind, opened-flat, opened-union, block-kind, base-is}
+use Rattle.fit.proofs.KindTests.{readable, read-stored, member-readable, element-readable, scalar-kind, text-kind, opened-kind, opened-flat, opened-union, block-kind, base-is}
 use Rattle.fit.proofs.Unions.{never-unfit, selected-other}
 use Rattle.fit.proofs.Scalars.{bad-data, no-room, no-discriminator, Settles, scalar-settles}
 
@@ -100,10 +101,6 @@ by-length Xcdr2 types t e = both-first (eqb (t .kind) 25) (primitiveElement type
 abbrev NoRows : List Row → Type 0
 NoRows rs = rs ≡ []
 
-pub none-held : (types : List BookType) (s : List ℕ) (ms : List Member) → Members types s ms []
-none-held types s [] = shape.no-member
-none-held types s (m ∷ ms) = shape.member shape.absent (none-held types s ms)
-
 member-type : (ms : List Member) (m : Member) → OneOf m ms → OneOf (m .type) (memberTypes ms)
 unfolding memberTypes
 member-type (x ∷ xs) m (List·Memᴰ·head e) = List·Memᴰ·head (ap (λ (y : Member). y .type) e)
@@ -147,11 +144,10 @@ openable types right longest ty o f =
 module _ (types : List BookType) (s : List ℕ) (set : Settings) (right : (k : ℕ) → Right types k) where
   -- a number or a text of a type
   single-settles : (ty id : ℕ) (c : Cursor) (k : ℕ) → readable (readAs (typeNo types ty)) ≡ true → Settles (Single types s ty id) (scalarOf s set (readAs (typeNo types ty)) id c k)
-  unfolding storedKind
   single-settles ty id c k h =
       let t = typeNo types ty in
       scalar-settles s set (readAs t) id c k h
-      (λ a b p q. shape.scalar a b (scalar-kind t (right ty .kind) h p q))
+      (λ a b p q. rw (read-stored t) (shape.scalar a b (scalar-kind t (right ty .kind) h p q)))
       (λ start n e i. shape.text8 start n (text-kind t 16 refl e) i)
       (λ start n e i. shape.text16 start n (text-kind t 17 refl e) i)
 
@@ -164,8 +160,8 @@ module _ (types : List BookType) (s : List ℕ) (set : Settings) (right : (k : �
   -- a list of them, whatever is said of its row and its elements
   module _ {R : List Row → Type 0} (ty id count : ℕ) (r : (rs : List Row) → Elements types s ty count 0 rs → R (row 25 id (storedKind (typeNo types ty)) count ∷ rs)) where
     list-settles : (c : Cursor) (k : ℕ) → readable (readAs (typeNo types ty)) ≡ true → Settles R (listOf s set (readAs (typeNo types ty)) id count c k)
-    unfolding listOf storedKind
-    list-settles c k h = ends-room k no-room (ends-prepend _ (scalars-settle ty count 0 c (k - 1) h) r)
+    unfolding listOf
+    list-settles c k h = rw (read-stored (typeNo types ty)) (ends-room k no-room (ends-prepend _ (scalars-settle ty count 0 c (k - 1) h) r))
 
     block-settles : (p : Place) (o : Outcome) → Settles R o → Settles R (onBlock p o)
     unfolding onBlock

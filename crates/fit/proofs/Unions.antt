@@ -18,10 +18,11 @@ use Rattle.table.specs.Rows.{row}
 use Rattle.choice.specs.Discriminator.{discriminatorIn, enumIn, discriminatorOf}
 use Rattle.choice.specs.Select.{byDefaultValue, defaultValue, selectedOf}
 use Rattle.choice.specs.declared.discriminator.Discriminator.the-variants.{Unfit}
-use Rattle.fit.specs.Fit.{OneOf, chooses}
-use Rattle.fit.specs.Shape as shape
-use Rattle.fit.specs.Shape.{Held, storedKind}
-use Rattle.fit.proofs.KindTests.{among-each, base-is, chosen-stored}
+use Rattle.fit.specs.Fit.{chooses}
+use Rattle.shape.specs.Shape as shape
+use Rattle.shape.specs.Shape.{OneOf, Held, storedKind}
+use Rattle.shape.proofs.KindTests.{among-each}
+use Rattle.fit.proofs.KindTests.{base-is, chosen-stored}
 
 -- ---- the discriminator's value can be taken from its rows
 

@@ -7,7 +7,7 @@ use Rattle.book.specs.Types.{BookType, typeCount, typesOf}
 use Rattle.book.specs.Rules.{bookOk}
 use Rattle.table.specs.Outcome.{Outcome, numberOf, rowsOf}
 use Rattle.fit.specs.Fit.{checkClauses, Passes}
-use Rattle.fit.specs.Shape.{Opened}
+use Rattle.shape.specs.Shape.{Opened}
 
 -- the check's number, with what it says: 0 passes, "Otherwise 8, 9, then 16."
 pub data Checked (book : List ℕ) (root : ℕ) : ℕ → Type 0 where

@@ -5,16 +5,13 @@
 use Prim.Native.Nat.{ℕ, suc, _≤_}
 use mathlib.Core.Path.{_≡_}
 use mathlib.Core.Bool.{Bool, true, false, not, _||_}
-use mathlib.Core.List.{List, [], _∷_, List·Memᴰ}
+use mathlib.Core.List.{List, [], _∷_}
 use lib.Dec.{eqb}
 use Rattle.ground.specs.Choice.{pick, both, every, among}
 use Rattle.kinds.specs.Kinds.{opens, unsupportedMember, unsupportedElement, bitmaskStored}
 use Rattle.book.specs.Types.{BookType, Member, bounded, typeNo}
 use Rattle.book.specs.Rules.{isEnum, isUnion, isList}
-
--- x stands in the list
-abbrev pub OneOf : {A : Type 0} → A → List A → Type 0
-OneOf x xs = List·Memᴰ x xs
+use Rattle.shape.specs.Shape.{OneOf}
 
 -- ---- what is reached
 

@@ -14,9 +14,9 @@ use Rattle.book.specs.Types.{BookType}
 use Rattle.table.specs.declared.rows.Row.{Row}
 use Rattle.table.specs.Rows.{row, width, words, rowAt, Filled}
 use Rattle.table.proofs.Filling.{length-words, filled-first, filled-rest}
-use Rattle.fit.specs.Shape.{Inside, Opened}
-use Rattle.fit.specs.Flat.{RowFits}
-use Rattle.fit.proofs.Flat.{each-row}
+use Rattle.shape.specs.Shape.{Inside, Opened}
+use Rattle.shape.specs.Flat.{RowFits}
+use Rattle.shape.proofs.Flat.{each-row}
 use Rattle.sinotayam.specs.Answer.{tableOf}
 use Rattle.sinotayam.specs.Text.{textBytes, spanOf, spanNumber, textNumber}
 

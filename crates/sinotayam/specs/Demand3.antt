@@ -4,7 +4,7 @@ use mathlib.Core.Path.{_≡_}
 use mathlib.Core.List.{List}
 use lib.ListN.{length}
 use Rattle.book.specs.Types.{typesOf}
-use Rattle.fit.specs.Shape.{Opened}
+use Rattle.shape.specs.Shape.{Opened}
 use Rattle.fit.specs.Demand3.{Told}
 use Rattle.table.specs.declared.rows.Row.{Row}
 use Rattle.sinotayam.specs.declared.answer.Answer.{Answer}

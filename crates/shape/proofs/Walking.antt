@@ -11,12 +11,10 @@ use lib.Seq.{drop-at}
 use Rattle.kinds.specs.Kinds.{opens, storedOf}
 use Rattle.book.specs.Types.{BookType, Member, typeNo}
 use Rattle.table.specs.declared.rows.Row.{Row}
-use Rattle.fit.specs.Fit.{OneOf}
-use Rattle.fit.specs.Shape as shape
-use Rattle.fit.specs.Shape.{Value, Single, Elements, Beneath, Members, Held, storedKind}
-use Rattle.fit.specs.Walk.{extent, extents, span, direct, InOrder, none-left, without, with}
-use Rattle.fit.proofs.KindTests.{scalar-stored, own-stored}
-use Rattle.fit.proofs.Settling.{none-held}
+use Rattle.shape.specs.Shape as shape
+use Rattle.shape.specs.Shape.{OneOf, Value, Single, Elements, Beneath, Members, Held, storedKind}
+use Rattle.shape.specs.Walk.{extent, extents, span, direct, InOrder, none-left, without, with}
+use Rattle.shape.proofs.KindTests.{scalar-stored, own-stored}
 
 -- ---- where a value ends
 
@@ -109,6 +107,11 @@ members-order x zero = none-left
 members-order shape.no-member (suc n) = none-left
 members-order (shape.member shape.absent x) (suc n) = without (members-order x (suc n))
 members-order (shape.member {ss = ss} (shape.present v) x) (suc n) = direct-step n ss (value-whole v) refl refl (members-order x n)
+
+-- members none of which is there
+pub none-held : (types : List BookType) (s : List ℕ) (ms : List Member) → Members types s ms []
+none-held types s [] = shape.no-member
+none-held types s (m ∷ ms) = shape.member shape.absent (none-held types s ms)
 
 -- a union's rows are those of its members too, all but two of which are absent
 one-held : (types : List BookType) (s : List ℕ) (ms : List Member) (m : Member) (rs : List Row) → OneOf m ms → Held types s m rs → Members types s ms rs

@@ -13,10 +13,10 @@ use Rattle.kinds.specs.Kinds.{opens}
 use Rattle.book.specs.Types.{BookType, typeNo}
 use Rattle.table.specs.declared.rows.Row.{Row}
 use Rattle.table.specs.Rows.{row}
-use Rattle.fit.specs.Shape as shape
-use Rattle.fit.specs.Shape.{Opened, Beneath, Inside, storedKind}
-use Rattle.fit.specs.Flat.{RowFits}
-use Rattle.fit.proofs.KindTests.{among-each, scalar-row, scalar-kinds}
+use Rattle.shape.specs.Shape as shape
+use Rattle.shape.specs.Shape.{Opened, Beneath, Inside, storedKind}
+use Rattle.shape.specs.Flat.{RowFits}
+use Rattle.shape.proofs.KindTests.{among-each, scalar-row, scalar-kinds}
 
 -- a row's kind that is no text's and opens nothing
 abbrev simple : ℕ → Bool

@@ -3,24 +3,27 @@
 use Prim.Native.Nat.{ℕ, suc, _+_, _*_, _≤_}
 use mathlib.Core.Path.{_≡_}
 use mathlib.Core.Bool.{Bool, true}
-use mathlib.Core.List.{List, [], _∷_, _++_}
+use mathlib.Core.List.{List, [], _∷_, _++_, List·Memᴰ}
 use mathlib.Core.Option.{some}
 use lib.ListN.{length}
 use lib.IntN.{ℤ}
-use Rattle.ground.specs.Choice.{among}
-use Rattle.kinds.specs.Kinds.{storedOf}
-use Rattle.book.specs.Types.{BookType, Member, typeNo}
+use lib.Dec.{eqb}
+use Rattle.ground.specs.Choice.{pick, among}
+use Rattle.kinds.specs.Kinds.{storedOf, bitmaskStored}
+use Rattle.book.specs.Types.{BookType, Member, bounded, typeNo}
 use Rattle.table.specs.declared.rows.Row.{Row}
 use Rattle.table.specs.Rows.{row}
 use Rattle.choice.specs.Discriminator.{discriminatorOf}
 use Rattle.choice.specs.Select.{selectedOf}
 use Rattle.choice.specs.declared.discriminator.Discriminator.the-variants as discriminator
-use Rattle.reader.specs.Value.{readAs}
-use Rattle.fit.specs.Fit.{OneOf}
 
--- a type's stored kind: "BYTE is stored as 13. A bitmask is 13, 6, 7 or 8 by bound", "Sequences and arrays: kind 25", others their own
+-- x stands in the list
+abbrev pub OneOf : {A : Type 0} → A → List A → Type 0
+OneOf x xs = List·Memᴰ x xs
+
+-- a type's stored kind: "A bitmask is 13, 6, 7 or 8 by bound"; by its own kind any other: "BYTE is stored as 13.", "Sequences and arrays: kind 25"
 unfoldable pub storedKind : BookType → ℕ
-storedKind t = storedOf (readAs t)
+storedKind t = pick (eqb (t .kind) 19) (bitmaskStored (bounded t) (t .bound)) (storedOf (t .kind))
 
 -- "Scalars": 1 BOOLEAN to 14 CHAR8, and 19 BITMASK
 unfoldable pub isScalar : BookType → Bool

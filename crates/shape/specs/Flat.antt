@@ -7,7 +7,7 @@ use lib.ListN.{take}
 use Rattle.kinds.specs.Kinds.{opens}
 use Rattle.book.specs.Types.{BookType}
 use Rattle.table.specs.declared.rows.Row.{Row}
-use Rattle.fit.specs.Shape.{Inside, Opened}
+use Rattle.shape.specs.Shape.{Inside, Opened}
 
 pub record RowFits (types : List BookType) (s : List ℕ) (r : Row) (after : List Row) : Type 0 where
   -- "Text 16: a start in the data, b bytes; 17: b 16-bit units.": each lies inside the data

@@ -8,7 +8,7 @@ use Rattle.ground.specs.Choice.{pick}
 use Rattle.kinds.specs.Kinds.{opens}
 use Rattle.book.specs.Types.{BookType, Member, typeNo}
 use Rattle.table.specs.declared.rows.Row.{Row}
-use Rattle.fit.specs.Shape.{storedKind}
+use Rattle.shape.specs.Shape.{storedKind}
 
 -- the rows of a value that is no list: its own, and of kinds 21 to 23 also "b all rows beneath, at any depth"
 unfoldable pub extent : Row → ℕ
