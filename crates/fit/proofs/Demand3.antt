@@ -20,7 +20,7 @@ use Rattle.fit.specs.Fit.{checkClauses, Passes}
 use Rattle.shape.specs.Shape.{Opened}
 use Rattle.fit.specs.Check.{checkOf}
 use Rattle.fit.specs.Code.Check.{fits}
-use Rattle.fit.specs.Demand3.{Checked, fit, bad-book, bad-root, unfit, finished-reading, too-few-bytes, invalid-data, full-table, absent-discriminator, Untroubled}
+use Rattle.fit.specs.Demand3.{Checked, fit, bad-book, bad-root, unfit, finished-reading, too-few-bytes, invalid-data, full-table, absent-discriminator, AreBytes, Untroubled}
 use Rattle.fit.proofs.Ends.{Ends, finished, wanting, broken, by-test}
 use Rattle.fit.proofs.Scalars.{Allowed, bad-data, no-room, no-discriminator}
 use Rattle.fit.proofs.Settling.{nested-settles}
@@ -53,8 +53,8 @@ untroubled (broken no-room) = record { number = full-table; rows = λ e. absurd 
 untroubled (broken no-discriminator) = record { number = absent-discriminator; rows = λ e. absurd (omega arith) }
 
 -- DEMAND 3: for every book and root that the check passes, all data, all settings and every room
-pub demand-3 : (book s : List ℕ) (set : Settings) (root room : ℕ) → checkOf book root ≡ 0 → Untroubled (typesOf book) s root (reading (typesOf book) s set root room)
+pub demand-3 : (book s : List ℕ) → AreBytes s → (set : Settings) (root room : ℕ) → checkOf book root ≡ 0 → Untroubled (typesOf book) s root (reading (typesOf book) s set root room)
 unfolding reading
-demand-3 book s set root room e =
+demand-3 book s bytes set root room e =
     let p = passing (check-says book root) e in
-    untroubled (nested-settles (typesOf book) s set (right-type book (p .0)) 16 root 0 (cursorAt 0 0) room (p .1 .kind) (p .1 .fit))
+    untroubled (nested-settles (typesOf book) s bytes set (right-type book (p .0)) 16 root 0 (cursorAt 0 0) room (p .1 .kind) (p .1 .fit))

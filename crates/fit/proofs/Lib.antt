@@ -1,5 +1,6 @@
 pub mod Ends
 pub mod KindTests
+pub mod Ranges
 pub mod Scalars
 pub mod Unions
 pub mod Fits

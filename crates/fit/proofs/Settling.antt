@@ -53,6 +53,7 @@ use Rattle.fit.specs.Fit.{Fit, linksOf, memberTypes, memberSupported, me
 use Rattle.shape.specs.Shape as shape
 use Rattle.shape.specs.Shape.{OneOf, Value, Single, Elements, Opened, Beneath, Members, Held, storedKind}
 use Rattle.shape.proofs.Walking.{none-held}
+use Rattle.fit.specs.Demand3.{AreBytes}
 use Rattle.fit.proofs.Fits.{every-one, fit-next, fit-below, members-supported, element-supported, base-supported, discriminator-fits}
 use Rattle.fit.proofs.Ends.{finished, wanting, broken, ends-prepend, ends-then, ends-end, ends-room, ends-closed, ends-back, ends-as, ends-move, ends-number, by-test}
 use Rattle.fit.proofs.KindTests.{readable, read-stored, member-readable, element-readable, scalar-kind, text-kind, opened-kind, opened-flat, opened-union, block-kind, base-is}
@@ -141,13 +142,13 @@ openable types right longest ty o f =
           };
     }
 
-module _ (types : List BookType) (s : List ℕ) (set : Settings) (right : (k : ℕ) → Right types k) where
+module _ (types : List BookType) (s : List ℕ) (bytes : AreBytes s) (set : Settings) (right : (k : ℕ) → Right types k) where
   -- a number or a text of a type
   single-settles : (ty id : ℕ) (c : Cursor) (k : ℕ) → readable (readAs (typeNo types ty)) ≡ true → Settles (Single types s ty id) (scalarOf s set (readAs (typeNo types ty)) id c k)
   single-settles ty id c k h =
       let t = typeNo types ty in
-      scalar-settles s set (readAs t) id c k h
-      (λ a b p q. rw (read-stored t) (shape.scalar a b (scalar-kind t (right ty .kind) h p q)))
+      scalar-settles s bytes set (readAs t) id c k h
+      (λ a b p q g. rw (read-stored t) (shape.scalar a b (scalar-kind t (right ty .kind) h p q) (rw (read-stored t) at g)))
       (λ start n e i. shape.text8 start n (text-kind t 16 refl e) i)
       (λ start n e i. shape.text16 start n (text-kind t 17 refl e) i)
 
@@ -348,7 +349,7 @@ module _ (types : List BookType) (s : List ℕ) (set : Settings) (right : (k : �
     enum-settles t c k e b =
         let base = base-is (t .base) b in
         rw b
-        (scalar-settles s set (t .base) 0 c k (base .reads) (λ x y p q. rw (base .stored) (shape.enum x y e b)) (λ start n z i. absurd (base .noText8 z)) (λ start n z i. absurd (base .noText16 z)))
+        (scalar-settles s bytes set (t .base) 0 c k (base .reads) (λ x y p q g. rw (base .stored) (shape.enum x y e b (rw (base .stored) at g))) (λ start n z i. absurd (base .noText8 z)) (λ start n z i. absurd (base .noText16 z)))
 
     module _ (ty : ℕ) (o : Openable types depth ty) where
       abbrev own : BookType
@@ -382,8 +383,8 @@ module _ (types : List BookType) (s : List ℕ) (set : Settings) (right : (k : �
           rw (o .opens) (ends-room k no-room (ends-closed _ _ _ (body-by (eqb (own .kind) 21) (isMutable own) c (k - 1) refl) (λ rs x. shape.opened x)))
 
 -- a value of a fit type, where as many values may be opened as its longest chain has
-pub nested-settles : (types : List BookType) (s : List ℕ) (set : Settings) → ((k : ℕ) → Right types k) → (depth ty id : ℕ) (c : Cursor) (k : ℕ) → opens (typeNo types ty .kind) ≡ true → Fit checkClauses types depth ty → Settles (Opened types s ty id) (nestedAt types s set depth ty id c k)
+pub nested-settles : (types : List BookType) (s : List ℕ) → AreBytes s → (set : Settings) → ((k : ℕ) → Right types k) → (depth ty id : ℕ) (c : Cursor) (k : ℕ) → opens (typeNo types ty .kind) ≡ true → Fit checkClauses types depth ty → Settles (Opened types s ty id) (nestedAt types s set depth ty id c k)
 unfolding nestedAt
-nested-settles types s set right zero ty id c k o f = absurd (omega (arith, f .chains 1 (fit.last o)))
-nested-settles types s set right (suc depth) ty id c k o f =
-    opened-settles types s set right (nestedAt types s set depth) depth (nested-settles types s set right depth) ty (openable types right depth ty o f) id c k
+nested-settles types s bytes set right zero ty id c k o f = absurd (omega (arith, f .chains 1 (fit.last o)))
+nested-settles types s bytes set right (suc depth) ty id c k o f =
+    opened-settles types s bytes set right (nestedAt types s set depth) depth (nested-settles types s bytes set right depth) ty (openable types right depth ty o f) id c k

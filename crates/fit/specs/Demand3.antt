@@ -3,6 +3,7 @@ use Prim.Native.Nat.{ℕ, _≤_, _<_}
 use mathlib.Core.Path.{_≡_}
 use mathlib.Core.Bool.{true, false}
 use mathlib.Core.List.{List}
+use lib.ListN.{getD}
 use Rattle.book.specs.Types.{BookType, typeCount, typesOf}
 use Rattle.book.specs.Rules.{bookOk}
 use Rattle.table.specs.Outcome.{Outcome, numberOf, rowsOf}
@@ -15,6 +16,10 @@ pub data Checked (book : List ℕ) (root : ℕ) : ℕ → Type 0 where
   bad-book : bookOk book ≡ false → Checked book root 8
   bad-root : bookOk book ≡ true → typeCount book ≤ root → Checked book root 9
   unfit : bookOk book ≡ true → root < typeCount book → (Passes checkClauses (typesOf book) root → ⊥) → Checked book root 16
+
+-- the elements of the data are bytes. A list's elements may be any numbers; those of a slice that a call is lent are such
+abbrev pub AreBytes : List ℕ → Type 0
+AreBytes s = (i : ℕ) → getD s i 0 < 256
 
 -- the numbers that are left for a reading of a type that the check passes
 pub data Told : ℕ → Type 0 where

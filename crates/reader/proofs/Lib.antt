@@ -9,4 +9,3 @@ pub mod LookedSteps
 pub mod UnionSteps
 pub mod NestedSteps
 mod Rules
-pub mod Examples

@@ -1,16 +1,20 @@
 -- What the shape of rows rules out. Assumes nothing.
-use Prim.Native.Nat.{ℕ, suc, _+_, _*_, _≤_}
+use Prim.Native.Nat.{ℕ, suc, _+_, _-_, _*_, _^_, _≤_}
+use mathlib.Core.Bool.{true, not}
 use mathlib.Core.Path.{_≡_, refl, sym, ap, _∙_}
 use mathlib.Core.List.{List, [], _∷_}
 use native.Mathlib.Omega.{arith}
 use lib.ListN.{length}
-use Rattle.kinds.specs.Kinds.{opens, storedOf}
+use Rattle.ground.specs.Choice.{every}
+use Rattle.ground.proofs.Tests.{apart}
+use Rattle.kinds.specs.Kinds.{opens, storedOf, alignOf, isSigned}
 use Rattle.book.specs.Types.{BookType, Member, noIndex, typeNo}
 use Rattle.table.specs.declared.rows.Row.{Row}
 use Rattle.table.specs.Rows.{row}
+use Rattle.shape.specs.Range.{isExtended, inRange}
 use Rattle.shape.specs.Shape.{Value, Opened, storedKind}
 use Rattle.shape.specs.Walk.{extent, span, direct, InOrder, none-left, without, with}
-use Rattle.shape.proofs.Rows.{rows-beneath, rows-in-order, array-size}
+use Rattle.shape.proofs.Walking.{rows-beneath, rows-in-order, array-size}
 use Rattle.shape.proofs.Flat.{each-row}
 
 abbrev type : ℕ → ℕ → ℕ → List Member → BookType
@@ -59,7 +63,7 @@ twice s x y o = go (rows-in-order o (λ e. omega arith) 2) refl
     go : {qs : List Row} → InOrder small (member 0 0 ∷ []) qs → qs ≡ row 4 0 x 0 ∷ row 4 0 y 0 ∷ [] → ⊥
     go none-left e = let z : _≡_ {A = ℕ} 0 2 = ap length e in omega arith
     go (without more) e = nothing-left (row 4 0 x 0 ∷ row 4 0 y 0 ∷ []) more e (λ z. omega arith)
-    go (with i k more) e = nothing-left (row 4 0 y 0 ∷ []) more (ap tail e) (λ z. omega arith)
+    go (with f more) e = nothing-left (row 4 0 y 0 ∷ []) more (ap tail e) (λ z. omega arith)
 
 -- a member's row under another stored kind
 other-kind : (s : List ℕ) (x : ℕ) → Opened small s 1 0 (row 22 0 1 1 ∷ row 8 0 x 0 ∷ []) → ⊥
@@ -73,7 +77,7 @@ other-kind s x o = go (rows-in-order o (λ e. omega arith) 1) refl
     go : {qs : List Row} → InOrder small (member 0 0 ∷ []) qs → qs ≡ row 8 0 x 0 ∷ [] → ⊥
     go none-left e = let z : _≡_ {A = ℕ} 0 1 = ap length e in omega arith
     go (without more) e = nothing-left (row 8 0 x 0 ∷ []) more e (λ z. omega arith)
-    go (with i k more) e = let z : _≡_ {A = ℕ} 4 8 = sym k ∙ ap kindIn e in omega arith
+    go (with f more) e = let z : _≡_ {A = ℕ} 4 8 = sym (f .kind) ∙ ap kindIn e in omega arith
 
 -- the rows of two members in the other order
 out-of-order : (s : List ℕ) (x y : ℕ) → Opened (plain 4 ∷ structure (0 ∷ 0 ∷ []) ∷ []) s 1 0 (row 22 0 1 2 ∷ row 4 1 x 0 ∷ row 4 0 y 0 ∷ []) → ⊥
@@ -86,10 +90,10 @@ out-of-order s x y o = go (rows-in-order o (λ e. omega arith) 2) refl
 
     go : {types : List BookType} {qs : List Row} → InOrder types (member 0 0 ∷ member 1 0 ∷ []) qs → qs ≡ row 4 1 x 0 ∷ row 4 0 y 0 ∷ [] → ⊥
     go none-left e = let z : _≡_ {A = ℕ} 0 2 = ap length e in omega arith
-    go (with i k more) e = let z : _≡_ {A = ℕ} 0 1 = sym i ∙ ap idIn e in omega arith
+    go (with f more) e = let z : _≡_ {A = ℕ} 0 1 = sym (f .id) ∙ ap idIn e in omega arith
     go (without none-left) e = let z : _≡_ {A = ℕ} 0 2 = ap length e in omega arith
     go (without (without more)) e = nothing-left (row 4 1 x 0 ∷ row 4 0 y 0 ∷ []) more e (λ z. omega arith)
-    go (without (with i k more)) e = nothing-left (row 4 0 y 0 ∷ []) more (ap tail e) (λ z. omega arith)
+    go (without (with f more)) e = nothing-left (row 4 0 y 0 ∷ []) more (ap tail e) (λ z. omega arith)
 
 -- a text that ends one byte past the data
 text-outside : (s : List ℕ) → length s ≡ 2 → Opened (plain 16 ∷ structure (0 ∷ []) ∷ []) s 1 0 (row 22 0 1 1 ∷ row 16 0 2 1 ∷ []) → ⊥
@@ -99,3 +103,32 @@ text-outside s e o = let z : 2 + 1 * 1 ≤ length s = each-row o 1 (omega arith)
 short-array : (s : List ℕ) (rs : List Row) → Value (plain 4 ∷ array 3 0 ∷ []) s 1 0 (row 25 0 4 2 ∷ rs) → ⊥
 unfolding typeNo
 short-array s rs v = let z : _≡_ {A = ℕ} 2 3 = array-size v refl .0 in omega arith
+
+-- the ends of each range: BOOLEAN, INT8, INT64, FLOAT32, FLOAT128, UINT8; and a word b that is not 0
+ranges : every (λ b. b) (
+    inRange 1 1 0
+    ∷ not (inRange 1 2 0)
+    ∷ inRange 12 127 0
+    ∷ not (inRange 12 128 0)
+    ∷ not (inRange 12 (2 ^ 64 - 129) 0)
+    ∷ inRange 12 (2 ^ 64 - 128) 0
+    ∷ inRange 12 (2 ^ 64 - 1) 0
+    ∷ not (inRange 12 (2 ^ 64) 0)
+    ∷ inRange 5 (2 ^ 64 - 1) 0
+    ∷ not (inRange 5 (2 ^ 64) 0)
+    ∷ inRange 9 (2 ^ 32 - 1) 0
+    ∷ not (inRange 9 (2 ^ 32) 0)
+    ∷ inRange 11 (2 ^ 64 - 1) (2 ^ 64 - 1)
+    ∷ not (inRange 11 (2 ^ 64) 0)
+    ∷ inRange 13 255 0
+    ∷ not (inRange 13 256 0)
+    ∷ not (inRange 13 255 1)
+    ∷ []
+    ) ≡ true
+unfolding every inRange isExtended isSigned alignOf
+ranges = refl
+
+-- a BOOLEAN that is neither 0 nor 1
+boolean-two : (s : List ℕ) → Opened (plain 1 ∷ structure (0 ∷ []) ∷ []) s 1 0 (row 22 0 1 1 ∷ row 1 0 2 0 ∷ []) → ⊥
+unfolding inRange
+boolean-two s o = apart (each-row o 1 (omega arith) .scalar refl)

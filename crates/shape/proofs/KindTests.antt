@@ -9,6 +9,7 @@ use Rattle.ground.specs.Choice.{pick, both, every, among, _‥_, within}
 use Rattle.ground.proofs.Tests.{apart, both-first, both-second}
 use Rattle.kinds.specs.Kinds.{storedOf, opens, bitmaskStored, storedByBound}
 use Rattle.book.specs.Types.{BookType, bounded}
+use Rattle.shape.specs.Range.{scalarRows}
 use Rattle.shape.specs.Shape.{storedKind, isScalar}
 
 pub true-is : (b : Bool) → T b → b ≡ true
@@ -34,10 +35,6 @@ among-each f (x ∷ xs) t k e =
 -- the kinds of `isScalar`
 abbrev pub scalars : List ℕ
 scalars = 1 ∷ 2 ∷ 3 ∷ 4 ∷ 5 ∷ 6 ∷ 7 ∷ 8 ∷ 9 ∷ 10 ∷ 11 ∷ 12 ∷ 13 ∷ 14 ∷ 19 ∷ []
-
--- the kinds of a scalar's row
-abbrev pub scalar-kinds : List ℕ
-scalar-kinds = 1 ∷ 3 ∷ 4 ∷ 5 ∷ 6 ∷ 7 ∷ 8 ∷ 9 ∷ 10 ∷ 11 ∷ 12 ∷ 13 ∷ 14 ∷ []
 
 -- a bitmask is stored as 13, 6, 7 or 8
 pub bitmask-among : (f : Bool) (n : ℕ) → among (13 ∷ 6 ∷ 7 ∷ 8 ∷ []) (bitmaskStored f n) ≡ true
@@ -71,17 +68,17 @@ module _ (t : BookType) where
   own-stored n e m = plain-stored (rw (← e) at m) ∙ ap storedOf e
 
   -- the row of a scalar has one of these kinds
-  pub scalar-row : isScalar t ≡ true → among scalar-kinds (storedKind t) ≡ true
+  pub scalar-row : isScalar t ≡ true → among scalarRows (storedKind t) ≡ true
   unfolding isScalar storedOf every
   scalar-row n =
-      by-mask (among scalar-kinds (storedKind t) ≡ true) (λ m.
+      by-mask (among scalarRows (storedKind t) ≡ true) (λ m.
       rw (mask-stored m)
-      (among-each (λ k. among scalar-kinds k) (13 ∷ 6 ∷ 7 ∷ 8 ∷ []) tt (bitmaskStored (bounded t) (t .bound)) (bitmask-among (bounded t) (t .bound)))) (λ m.
-      rw (plain-stored m) (rw m at (among-each (λ k. pick (eqb k 19) true (among scalar-kinds (storedOf k))) scalars tt (t .kind) n)))
+      (among-each (λ k. among scalarRows k) (13 ∷ 6 ∷ 7 ∷ 8 ∷ []) tt (bitmaskStored (bounded t) (t .bound)) (bitmask-among (bounded t) (t .bound)))) (λ m.
+      rw (plain-stored m) (rw m at (among-each (λ k. pick (eqb k 19) true (among scalarRows (storedOf k))) scalars tt (t .kind) n)))
 
   -- it is neither opened nor a list's
   pub scalar-stored : isScalar t ≡ true → (opens (storedKind t) ≡ false) × (eqb (storedKind t) 25 ≡ false)
   unfolding opens every
   scalar-stored n =
       let e = scalar-row n in
-      (not-true (opens (storedKind t)) (among-each (λ k. not (opens k)) scalar-kinds tt (storedKind t) e), not-true (eqb (storedKind t) 25) (among-each (λ k. not (eqb k 25)) scalar-kinds tt (storedKind t) e))
+      (not-true (opens (storedKind t)) (among-each (λ k. not (opens k)) scalarRows tt (storedKind t) e), not-true (eqb (storedKind t) 25) (among-each (λ k. not (eqb k 25)) scalarRows tt (storedKind t) e))

@@ -1,5 +1,4 @@
 pub mod KindTests
 pub mod Walking
 pub mod Flat
-pub mod Rows
 mod Examples

@@ -1,4 +1,4 @@
--- DEMAND 3 AND THE TEXT CALL: every text row of a finished reading is one to the text call. Assumes nothing.
+-- DEMAND 3 AND THE TABLE: each row that a finished reading leaves there by itself, and every text row is one to the text call. Assumes nothing.
 use Prim.Native.Nat.{ℕ, zero, suc, _+_, _*_, _<_}
 use mathlib.Core.Path.{_≡_, refl}
 use mathlib.Core.Bool.{Bool, true, false, _||_}
@@ -6,7 +6,7 @@ use mathlib.Core.List.{List, [], _∷_}
 use native.Mathlib.Nat.{add-zero}
 use native.Mathlib.Omega.{arith}
 use lib.Dec.{eqb}
-use lib.ListN.{length, getD}
+use lib.ListN.{length, getD, drop}
 use lib.Seq.{take-at}
 use borrow.Author.Tests.{le-leb, eqb-true}
 use Rattle.ground.specs.Choice.{among}
@@ -49,10 +49,15 @@ module _ (r : Row) (s : List ℕ) where
       by false e true k t = let z : r .kind ≡ 17 = eqb-true (r .kind) 17 k in sixteen z (x .text16 z)
       by false e false k t = absurd (let z : _≡_ {A = ℕ} 0 1 = cc in omega arith)
 
--- for each row of the table that a finished reading leaves
-pub texts-told : {types : List BookType} {s : List ℕ} {ty id : ℕ} {rs : List Row} → Opened types s ty id rs → (before : List ℕ) (i : ℕ) → i < length rs
-    → among (16 ∷ 17 ∷ []) (rowAt (tableOf before rs) i .kind) ≡ true → textNumber (tableOf before rs) i s ≡ 0
-texts-told {s = s} {rs = rs} o before i h t =
+-- EVERY ROW OF THE TABLE that a finished reading leaves is what the shape says of it by itself
+pub row-fits : {types : List BookType} {s : List ℕ} {ty id : ℕ} {rs : List Row} → Opened types s ty id rs → (before : List ℕ) (i : ℕ) → i < length rs
+    → RowFits types s (rowAt (tableOf before rs) i) (drop (suc i) rs)
+row-fits {rs = rs} o before i h =
     let z : 0 + i ≡ i = omega arith in
     let e : rowAt (tableOf before rs) i ≡ getD rs i (row 0 0 0 0) = rw z at (row-in 0 rs i (filled-table before rs) h) in
-    rw e (fitting (getD rs i (row 0 0 0 0)) s (each-row o i h) (rw e at t))
+    rw e (each-row o i h)
+
+-- .. and each text row is one to the text call
+pub texts-told : {types : List BookType} {s : List ℕ} {ty id : ℕ} {rs : List Row} → Opened types s ty id rs → (before : List ℕ) (i : ℕ) → i < length rs
+    → among (16 ∷ 17 ∷ []) (rowAt (tableOf before rs) i .kind) ≡ true → textNumber (tableOf before rs) i s ≡ 0
+texts-told {s = s} {rs = rs} o before i h t = fitting (rowAt (tableOf before rs) i) s (row-fits o before i h) t
