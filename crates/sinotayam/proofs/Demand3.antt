@@ -17,8 +17,8 @@ use Rattle.table.specs.Rows.{capacity}
 use Rattle.fit.specs.Check.{checkOf}
 use Rattle.fit.specs.Demand3.{AreBytes, Checked, fit, bad-book, bad-root, unfit, finished-reading, too-few-bytes, invalid-data, full-table, absent-discriminator}
 use Rattle.fit.proofs.Demand3.{check-says, demand-3}
-use Rattle.sinotayam.specs.declared.answer.Number.{Number}
-use Rattle.sinotayam.specs.declared.answer.Number.the-variants.{NotEnoughData, InvalidData, BadRoot, TooLong}
+use Rattle.sinotayam.specs.declared.answer.Status.{Status}
+use Rattle.sinotayam.specs.declared.answer.Status.the-variants.{NotEnoughData, InvalidData, BadRoot, TooLong}
 use Rattle.sinotayam.specs.declared.answer.Answer.{Answer}
 use Rattle.sinotayam.specs.Answer.{Result, codeOf, refusedBy, resultOf, Settled, Returned}
 use Rattle.sinotayam.specs.Entry.{refusedIf, byIdentifier, messageBy, dataBy, withBook, readOf, readDataOf}
@@ -28,10 +28,10 @@ use Rattle.sinotayam.proofs.Preparing.{prepared-same}
 
 module _ (book s : List ℕ) (root : ℕ) where
   -- what is refused before the reading begins
-  before : (n : Number) → ToldOf s (codeOf n) → (codeOf n ≡ 0 → ⊥) → Safe book s root (refusedBy n)
+  before : (n : Status) → ToldOf s (codeOf n) → (codeOf n ≡ 0 → ⊥) → Safe book s root (refusedBy n)
   before n t f = record { number = t; rows = λ e. absurd (f e) }
 
-  by-refused : (t : Bool) (n : Number) (next : Result) → (t ≡ true → Safe book s root (refusedBy n)) → (t ≡ false → Safe book s root next) → Safe book s root (refusedIf t n next)
+  by-refused : (t : Bool) (n : Status) (next : Result) → (t ≡ true → Safe book s root (refusedBy n)) → (t ≡ false → Safe book s root next) → Safe book s root (refusedIf t n next)
   unfolding refusedIf
   by-refused true n next p q = p refl
   by-refused false n next p q = q refl

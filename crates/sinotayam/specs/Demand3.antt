@@ -23,8 +23,8 @@ pub record Safe (book s : List ℕ) (root : ℕ) (w : Result) : Type 0 where
 
 -- the same of what a call gives back and of the table it leaves: the rows, and zeros after them
 pub record SafeCall (book s : List ℕ) (root : ℕ) (before after : List ℕ) (r : Answer) : Type 0 where
-  pub number : ToldOf s (codeOf (r .number))
-  pub rows : codeOf (r .number) ≡ 0 → (rs : List Row) × Opened (typesOf book) s root 0 rs × (r .rows ≡ length rs) × (after ≡ tableOf before rs)
+  pub number : ToldOf s (codeOf (r .status))
+  pub rows : codeOf (r .status) ≡ 0 → (rs : List Row) × Opened (typesOf book) s root 0 rs × (r .rows ≡ length rs) × (after ≡ tableOf before rs)
 
 -- and of the word that a C call gives back: the number is its lowest byte, the count of rows stands above it
 pub record SafeWord (book s : List ℕ) (root : ℕ) (before after : List ℕ) (r : ℕ) : Type 0 where
