@@ -36,33 +36,33 @@ beneath-row {t = t} (shape.union v e q h d g o x) = opened-row t 23 e refl refl 
 
 -- a value that is no list: its first row tells how many it has, and is no list's
 pub record One (id kind : ℕ) (rs : List Row) : Type 0 where
-  pub first : Row
+  pub head : Row
   pub others : List Row
-  pub is : rs ≡ first ∷ others
-  pub named : first .id ≡ id
-  pub stored : first .kind ≡ kind
-  pub long : extent first ≡ suc (length others)
-  pub noList : eqb (first .kind) 25 ≡ false
+  pub is : rs ≡ head ∷ others
+  pub named : head .id ≡ id
+  pub stored : head .kind ≡ kind
+  pub long : extent head ≡ suc (length others)
+  pub noList : eqb (head .kind) 25 ≡ false
 
 single-one : {types : List BookType} {s : List ℕ} {ty id : ℕ} {rs : List Row} → Single types s ty id rs → One id (storedKind (typeNo types ty)) rs
 unfolding extent storedOf opens
 single-one {types} {ty = ty} (shape.scalar a b n g) =
     let k = scalar-stored (typeNo types ty) n in
-    record { first = _; others = []; is = refl; named = refl; stored = refl; long = rw (k .0); noList = k .1 }
+    record { head = _; others = []; is = refl; named = refl; stored = refl; long = rw (k .0); noList = k .1 }
 single-one {types} {ty = ty} (shape.text8 start n e i) =
-    record { first = _; others = []; is = refl; named = refl; stored = sym (own-stored (typeNo types ty) 16 e refl); long = refl; noList = refl }
+    record { head = _; others = []; is = refl; named = refl; stored = sym (own-stored (typeNo types ty) 16 e refl); long = refl; noList = refl }
 single-one {types} {ty = ty} (shape.text16 start n e i) =
-    record { first = _; others = []; is = refl; named = refl; stored = sym (own-stored (typeNo types ty) 17 e refl); long = refl; noList = refl }
+    record { head = _; others = []; is = refl; named = refl; stored = sym (own-stored (typeNo types ty) 17 e refl); long = refl; noList = refl }
 single-one {types} {ty = ty} (shape.nested (shape.opened {rs = rs} b)) =
     let k = beneath-row b in
-    record { first = _; others = rs; is = refl; named = refl; stored = k .own; long = rw (k .opens); noList = k .noList }
+    record { head = _; others = rs; is = refl; named = refl; stored = k .own; long = rw (k .opens); noList = k .noList }
 
 elements-end : {types : List BookType} {s : List ℕ} {ty n i : ℕ} {rs : List Row} → Elements types s ty n i rs → (more : List Row) → extents n (rs ++ more) ≡ length rs
 unfolding extents
 elements-end shape.no-element more = refl
 elements-end (shape.element {left = left} {rs = rs} {ss = ss} x rest) more =
     let o = single-one x in
-    let step : extent (o .first) + extents left (drop (extent (o .first)) (o .first ∷ ((o .others ++ ss) ++ more))) ≡ length ((o .first ∷ o .others) ++ ss) =
+    let step : extent (o .head) + extents left (drop (extent (o .head)) (o .head ∷ ((o .others ++ ss) ++ more))) ≡ length ((o .head ∷ o .others) ++ ss) =
     rw (o .long, append-assoc, drop-at (o .others) (ss ++ more) (length (o .others)) refl, length-append (o .others) ss) (omega (arith, elements-end rest more)) in
     rw (o .is) step
 
@@ -81,44 +81,44 @@ module _ {types : List BookType} {s : List ℕ} {ty id : ℕ} where
 
 -- a value: its first row has its id, its stored kind and an array's size, and whatever rows come after it, its end is found
 pub record Whole (types : List BookType) (ty id : ℕ) (rs : List Row) : Type 0 where
-  pub first : Row
+  pub head : Row
   pub others : List Row
-  pub is : rs ≡ first ∷ others
-  pub named : first .id ≡ id
-  pub stored : first .kind ≡ storedKind (typeNo types ty)
-  pub size : typeNo types ty .kind ≡ 26 → first .b ≡ typeNo types ty .bound
+  pub is : rs ≡ head ∷ others
+  pub named : head .id ≡ id
+  pub stored : head .kind ≡ storedKind (typeNo types ty)
+  pub size : typeNo types ty .kind ≡ 26 → head .b ≡ typeNo types ty .bound
   pub ends : (more : List Row) → span (rs ++ more) ≡ length rs
 
 one-ends : {id kind : ℕ} {rs : List Row} (o : One id kind rs) (more : List Row) → span (rs ++ more) ≡ length rs
 unfolding span
 one-ends o more =
-    let step : span (o .first ∷ (o .others ++ more)) ≡ length (o .first ∷ o .others) = rw (o .noList) (o .long) in
+    let step : span (o .head ∷ (o .others ++ more)) ≡ length (o .head ∷ o .others) = rw (o .noList) (o .long) in
     rw (o .is) step
 
 pub value-whole : {types : List BookType} {s : List ℕ} {ty id : ℕ} {rs : List Row} → Value types s ty id rs → Whole types ty id rs
 unfolding span storedOf
 value-whole {types} {s} {ty} {id} (shape.one x) =
     let o = single-one x in
-    let v : Value types s ty id (o .first ∷ o .others) = rw (o .is) at (shape.one x) in
-    record { first = o .first; others = o .others; is = o .is; named = o .named; stored = o .stored; size = λ e. array-size v e .0; ends = λ more. one-ends o more }
+    let v : Value types s ty id (o .head ∷ o .others) = rw (o .is) at (shape.one x) in
+    record { head = o .head; others = o .others; is = o .is; named = o .named; stored = o .stored; size = λ e. array-size v e .0; ends = λ more. one-ends o more }
 value-whole {types} {ty = ty} (shape.sequence n e x) =
-    record { first = _; others = _; is = refl; named = refl; stored = sym (own-stored (typeNo types ty) 25 e refl); size = λ z. absurd (omega arith); ends = λ more. ap suc (elements-end x more) }
+    record { head = _; others = _; is = refl; named = refl; stored = sym (own-stored (typeNo types ty) 25 e refl); size = λ z. absurd (omega arith); ends = λ more. ap suc (elements-end x more) }
 value-whole {types} {ty = ty} (shape.array e x) =
-    record { first = _; others = _; is = refl; named = refl; stored = sym (own-stored (typeNo types ty) 26 e refl); size = λ z. refl; ends = λ more. ap suc (elements-end x more) }
+    record { head = _; others = _; is = refl; named = refl; stored = sym (own-stored (typeNo types ty) 26 e refl); size = λ z. refl; ends = λ more. ap suc (elements-end x more) }
 
 -- ---- in the type's order and at most once
 
 -- one step of the walk leads from a value's first row to what comes after the value
-step-over : {types : List BookType} {ty id : ℕ} {rs : List Row} (w : Whole types ty id rs) (ss : List Row) → drop (span (w .first ∷ (w .others ++ ss))) (w .first ∷ (w .others ++ ss)) ≡ ss
+step-over : {types : List BookType} {ty id : ℕ} {rs : List Row} (w : Whole types ty id rs) (ss : List Row) → drop (span (w .head ∷ (w .others ++ ss))) (w .head ∷ (w .others ++ ss)) ≡ ss
 step-over w ss =
-    let own : span (w .first ∷ (w .others ++ ss)) ≡ length (w .first ∷ w .others) = rw (w .is) at (w .ends ss) in
-    rw own (drop-at (w .first ∷ w .others) ss (length (w .first ∷ w .others)) refl)
+    let own : span (w .head ∷ (w .others ++ ss)) ≡ length (w .head ∷ w .others) = rw (w .is) at (w .ends ss) in
+    rw own (drop-at (w .head ∷ w .others) ss (length (w .head ∷ w .others)) refl)
 
 direct-step : {types : List BookType} {rs : List Row} {m : Member} {ms : List Member} (n : ℕ) (ss : List Row) → Whole types (m .type) (m .id) rs
     → InOrder types ms (direct n ss) → InOrder types (m ∷ ms) (direct (suc n) (rs ++ ss))
 unfolding direct
 direct-step {types} {m = m} {ms = ms} n ss w more =
-    let step : InOrder types (m ∷ ms) (w .first ∷ direct n (drop (span (w .first ∷ (w .others ++ ss))) (w .first ∷ (w .others ++ ss)))) =
+    let step : InOrder types (m ∷ ms) (w .head ∷ direct n (drop (span (w .head ∷ (w .others ++ ss))) (w .head ∷ (w .others ++ ss)))) =
     rw (step-over w ss) (with (record { id = w .named; kind = w .stored; size = w .size }) more) in
     rw (w .is) step
 
@@ -142,7 +142,7 @@ unfolding direct
 visit-step {rs = rs} zero ss v more h = let w = value-whole v in absurd (omega (arith, simp length-append at h, ap length (w .is)))
 visit-step {types} {s} {rs} {m} {ms} (suc n) ss v more h =
     let w = value-whole v in
-    let step : Visits types s (m ∷ ms) (w .first ∷ w .others ++ ss) (w .first ∷ direct n (drop (span (w .first ∷ (w .others ++ ss))) (w .first ∷ (w .others ++ ss)))) =
+    let step : Visits types s (m ∷ ms) (w .head ∷ w .others ++ ss) (w .head ∷ direct n (drop (span (w .head ∷ (w .others ++ ss))) (w .head ∷ (w .others ++ ss)))) =
     rw (step-over w ss) (visits (rw (w .is) at v) (more n (omega (arith, simp length-append at h, ap length (w .is))))) in
     rw (w .is) step
 

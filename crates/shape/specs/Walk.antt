@@ -32,7 +32,7 @@ direct (suc n) [] = []
 direct (suc n) (r ∷ rs) = r ∷ direct n (drop (span (r ∷ rs)) (r ∷ rs))
 
 -- a row that may be the first of a member's value: the member's id, its type's stored kind, and of an array its stated size
-pub record FirstOf (types : List BookType) (m : Member) (r : Row) : Type 0 where
+pub record StartOf (types : List BookType) (m : Member) (r : Row) : Type 0 where
   pub id : r .id ≡ m .id
   pub kind : r .kind ≡ storedKind (typeNo types (m .type))
   pub size : typeNo types (m .type) .kind ≡ 26 → r .b ≡ typeNo types (m .type) .bound
@@ -41,7 +41,7 @@ pub record FirstOf (types : List BookType) (m : Member) (r : Row) : Type 0 where
 pub data InOrder (types : List BookType) : List Member → List Row → Type 0 where
   none-left : {ms : List Member} → InOrder types ms []
   without : {m : Member} {ms : List Member} {rs : List Row} → InOrder types ms rs → InOrder types (m ∷ ms) rs
-  with : {m : Member} {ms : List Member} {r : Row} {rs : List Row} → FirstOf types m r → InOrder types ms rs → InOrder types (m ∷ ms) (r ∷ rs)
+  with : {m : Member} {ms : List Member} {r : Row} {rs : List Row} → StartOf types m r → InOrder types ms rs → InOrder types (m ∷ ms) (r ∷ rs)
 
 -- THE WALK OF A WHOLE LEVEL: the rows of these members, and those of them that a walk visits. Each member is passed by, or one value of it comes
 -- next, whose first row is visited; after the last member no row is left
