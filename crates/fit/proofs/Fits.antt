@@ -9,7 +9,7 @@ use Rattle.ground.proofs.Tests.{both-first, both-second}
 use Rattle.kinds.specs.Kinds.{opens}
 use Rattle.book.specs.Types.{BookType, typeNo}
 use Rattle.shape.specs.Shape.{OneOf}
-use Rattle.fit.specs.Fit.{here, there, opened, passed, Clause, Fit, linksOf, meets, membersSupported, elementSupported, baseSupported, discriminatorFits, checkClauses}
+use Rattle.fit.specs.Fit.{here, there, opened, passed, Clause, Fit, Passes, linksOf, meets, membersSupported, elementSupported, baseSupported, discriminatorFits, checkClauses}
 
 -- what holds of each holds of one, and the other way round
 pub every-one : {A : Type 0} (f : A → Bool) (xs : List A) (x : A) → every f xs ≡ true → OneOf x xs → f x ≡ true
@@ -43,6 +43,10 @@ module _ {clauses : List Clause} {types : List BookType} {longest ty : ℕ} wher
         each = λ k r. one-every (λ (c : Clause). c types (typeNo types k)) fewer (λ c o. every-one (λ (d : Clause). d types (typeNo types k)) clauses c (f .each k r) (are c o));
         chains = f .chains;
       }
+
+-- so what another check passes, whose clauses have those of the type check among them, the type check passes
+pub passes-fewer : {clauses : List Clause} {types : List BookType} {root : ℕ} (fewer : List Clause) → ((clause : Clause) → OneOf clause fewer → OneOf clause clauses) → Passes clauses types root → Passes fewer types root
+passes-fewer fewer are p = record { kind = p .kind; fit = fit-fewer fewer are (p .fit) }
 
 -- ONE LAW FOR EACH CLAUSE OF THE CHECK: what it says of a fit type
 module _ {types : List BookType} {longest ty : ℕ} (f : Fit checkClauses types longest ty) where

@@ -22,14 +22,14 @@ abbrev pub AreBytes : List ℕ → Type 0
 AreBytes s = (i : ℕ) → getD s i 0 < 256
 
 -- the numbers that are left for a reading of a type that the check passes
-pub data Told : ℕ → Type 0 where
-  finished-reading : Told 0
-  too-few-bytes : Told 1
-  invalid-data : Told 2
-  full-table : Told 13
-  absent-discriminator : Told 14
+pub data ReadingNumber : ℕ → Type 0 where
+  finished-reading : ReadingNumber 0
+  too-few-bytes : ReadingNumber 1
+  invalid-data : ReadingNumber 2
+  full-table : ReadingNumber 13
+  absent-discriminator : ReadingNumber 14
 
 -- the reading gives one of these numbers, and where it is finished its rows are those of one value of the root's type, with id 0
 pub record Untroubled (types : List BookType) (s : List ℕ) (root : ℕ) (o : Outcome) : Type 0 where
-  pub number : Told (numberOf o)
+  pub number : ReadingNumber (numberOf o)
   pub rows : numberOf o ≡ 0 → Opened types s root 0 (rowsOf o)

@@ -69,7 +69,7 @@ discriminatorFits types t = pick (isUnion t) (firstChooses types (t .members)) t
 unfoldable pub checkClauses : List Clause
 checkClauses = membersSupported ∷ elementSupported ∷ baseSupported ∷ discriminatorFits ∷ []
 
--- a type meets each of these clauses
+-- a type meets every one of these clauses
 unfoldable pub meets : List Clause → Clause
 meets clauses types t = every (λ clause. clause types t) clauses
 
@@ -84,13 +84,14 @@ pub data Chain (types : List BookType) : ℕ → ℕ → Type 0 where
 
 -- ---- the description
 
--- a type from which nothing is reached that fails a clause, and no chain is longer than this
+-- a type from which nothing is reached that fails one of the clauses, and no chain is longer than this
 pub record Fit (clauses : List Clause) (types : List BookType) (longest ty : ℕ) : Type 0 where
+  -- "Over the root and all that members and elements reach from it"
   pub each : (k : ℕ) → Reach types ty k → meets clauses types (typeNo types k) ≡ true
   -- "the longest chain of structures, enums and unions is at most .."
   pub chains : (n : ℕ) → Chain types ty n → n ≤ longest
 
--- a root passes: by these clauses, which for the type check are `checkClauses`
+-- A ROOT PASSES by these clauses: the type check's are `checkClauses`. Another check has its own list, and the proofs take any
 pub record Passes (clauses : List Clause) (types : List BookType) (root : ℕ) : Type 0 where
   -- "root kind is 21 to 23"
   pub kind : opens (typeNo types root .kind) ≡ true

@@ -11,7 +11,7 @@ use Rattle.kinds.specs.Kinds.{alignOf, isSigned}
 abbrev pub scalarRows : List ℕ
 scalarRows = 1 ∷ 3 ∷ 4 ∷ 5 ∷ 6 ∷ 7 ∷ 8 ∷ 9 ∷ 10 ∷ 11 ∷ 12 ∷ 13 ∷ 14 ∷ []
 
--- a signed number of w bytes, "extended to 64 bits": below half of 256 ^ w, or as far below 2 ^ 64
+-- a signed number of w bytes, "extended to 64 bits": below half of 256 ^ w, or at most that half below 2 ^ 64
 unfoldable pub isExtended : ℕ → ℕ → Bool
 isExtended w a = ltb a (256 ^ w / 2) || both (leb (2 ^ 64 - 256 ^ w / 2) a) (ltb a (2 ^ 64))
 

@@ -23,12 +23,12 @@ use Rattle.sinotayam.specs.declared.answer.Answer.{Answer}
 use Rattle.sinotayam.specs.Answer.{Result, codeOf, refusedBy, resultOf, Settled, Returned}
 use Rattle.sinotayam.specs.Entry.{refusedIf, byIdentifier, messageBy, dataBy, withBook, readOf, readDataOf}
 use Rattle.sinotayam.specs.Prepared.{prepareOf, preparedFrom, readPrepared, readDataPrepared}
-use Rattle.sinotayam.specs.Demand3.{ToldOf, told, over-limit, Safe, SafeCall, SafeWord}
+use Rattle.sinotayam.specs.Demand3.{CallNumber, of-reading, over-limit, Safe, SafeCall, SafeWord}
 use Rattle.sinotayam.proofs.Preparing.{prepared-same}
 
 module _ (book s : List ℕ) (root : ℕ) where
   -- what is refused before the reading begins
-  before : (n : Status) → ToldOf s (codeOf n) → (codeOf n ≡ 0 → ⊥) → Safe book s root (refusedBy n)
+  before : (n : Status) → CallNumber s (codeOf n) → (codeOf n ≡ 0 → ⊥) → Safe book s root (refusedBy n)
   before n t f = record { number = t; rows = λ e. absurd (f e) }
 
   by-refused : (t : Bool) (n : Status) (next : Result) → (t ≡ true → Safe book s root (refusedBy n)) → (t ≡ false → Safe book s root next) → Safe book s root (refusedIf t n next)
@@ -42,10 +42,10 @@ module _ (book s : List ℕ) (root : ℕ) where
 
   identified : AreBytes s → (room : ℕ) (r : Representation) → checkOf book root ≡ 0 → Safe book s root (byIdentifier (typesOf book) root s room r)
   unfolding byIdentifier codeOf resultOf
-  identified bytes room Unknown e = before InvalidData (told invalid-data) (λ z. omega arith)
+  identified bytes room Unknown e = before InvalidData (of-reading invalid-data) (λ z. omega arith)
   identified bytes room (Known set) e =
       let u = demand-3 book s bytes set root room e in
-      record { number = told (u .number); rows = u .rows }
+      record { number = of-reading (u .number); rows = u .rows }
 
   -- a type that the check passes is one of a good book
   taken : (next : List BookType → Result) (n : ℕ) → Checked book root n → n ≡ 0 → Safe book s root (next (typesOf book)) → Safe book s root (withBook book (λ types. refusedIf (leb (length types) root) BadRoot (next types)))
@@ -71,7 +71,7 @@ module _ (book : List ℕ) (root room : ℕ) (passes : checkOf book root ≡ 0) 
       let long : ltb 65536 (length message) ≡ true → 65532 < length (drop 4 message) = λ e. simp length-drop (omega (arith, ltb-true 65536 (length message) e)) in
       taken book s root _ (checkOf book root) (check-says book root) passes
       (too-long book s root (ltb 65536 (length message)) _ long
-      (by-refused book s root (ltb (length message) 4) NotEnoughData _ (λ e. before book s root NotEnoughData (told too-few-bytes) (λ z. omega arith)) (λ e.
+      (by-refused book s root (ltb (length message) 4) NotEnoughData _ (λ e. before book s root NotEnoughData (of-reading too-few-bytes) (λ z. omega arith)) (λ e.
       identified book s root (data-bytes message bytes) room (settingsOf (getD message 0 0) (getD message 1 0)) passes)))
 
   -- all data
@@ -98,12 +98,12 @@ call-demand-3 book s root w before after r safe d =
       rows = λ z. (w .rows, safe .rows (sym (d .number) ∙ z), d .count, d .table);
     }
 
-small : {s : List ℕ} {n : ℕ} → ToldOf s n → n < 256
-small (told finished-reading) = omega arith
-small (told too-few-bytes) = omega arith
-small (told invalid-data) = omega arith
-small (told full-table) = omega arith
-small (told absent-discriminator) = omega arith
+small : {s : List ℕ} {n : ℕ} → CallNumber s n → n < 256
+small (of-reading finished-reading) = omega arith
+small (of-reading too-few-bytes) = omega arith
+small (of-reading invalid-data) = omega arith
+small (of-reading full-table) = omega arith
+small (of-reading absent-discriminator) = omega arith
 small (over-limit h) = omega arith
 
 pub word-demand-3 : (book s : List ℕ) (root : ℕ) (w : Result) (before after : List ℕ) (r : ℕ) → Safe book s root w → Returned w before after r → SafeWord book s root before after r

@@ -16,26 +16,26 @@ answerOf k =
     (pick (eqb k 8) BadBook (pick (eqb k 9) BadRoot (pick (eqb k 10) TooLong (pick (eqb k 11) Unsupported (pick (eqb k 12) TooDeep
     (pick (eqb k 13) NoRoom (pick (eqb k 14) NoDiscriminator (pick (eqb k 15) NotText Unfit))))))))))))
 
-told-back : (n : Status) → answerOf (codeOf n) ≡ n
+answer-back : (n : Status) → answerOf (codeOf n) ≡ n
 unfolding answerOf codeOf
-told-back Read = refl
-told-back NotEnoughData = refl
-told-back InvalidData = refl
-told-back InvalidType = refl
-told-back PidNotFound = refl
-told-back BadBook = refl
-told-back BadRoot = refl
-told-back TooLong = refl
-told-back Unsupported = refl
-told-back TooDeep = refl
-told-back NoRoom = refl
-told-back NoDiscriminator = refl
-told-back NotText = refl
-told-back Unfit = refl
+answer-back Read = refl
+answer-back NotEnoughData = refl
+answer-back InvalidData = refl
+answer-back InvalidType = refl
+answer-back PidNotFound = refl
+answer-back BadBook = refl
+answer-back BadRoot = refl
+answer-back TooLong = refl
+answer-back Unsupported = refl
+answer-back TooDeep = refl
+answer-back NoRoom = refl
+answer-back NoDiscriminator = refl
+answer-back NotText = refl
+answer-back Unfit = refl
 
 -- no two answers share a number
 pub one-number : (m n : Status) → codeOf m ≡ codeOf n → m ≡ n
-one-number m n e = sym (told-back m) ∙ ap answerOf e ∙ told-back n
+one-number m n e = sym (answer-back m) ∙ ap answerOf e ∙ answer-back n
 
 same-fields : (m n : Status) (j k : ℕ) → m ≡ n → j ≡ k → _≡_ {A = Answer} (record { status = m; rows = j }) (record { status = n; rows = k })
 same-fields m n j k e f = rw (e, f)

@@ -10,14 +10,16 @@ use lib.ListN.{length, getD, drop}
 use lib.Seq.{take-at}
 use borrow.Author.Tests.{le-leb, eqb-true}
 use Rattle.ground.specs.Choice.{among}
-use Rattle.book.specs.Types.{BookType}
+use Rattle.book.specs.Types.{BookType, typesOf}
 use Rattle.table.specs.declared.rows.Row.{Row}
 use Rattle.table.specs.Rows.{row, width, words, rowAt, Filled}
 use Rattle.table.proofs.Filling.{length-words, filled-first, filled-rest}
 use Rattle.shape.specs.Shape.{Inside, Opened}
 use Rattle.shape.specs.Flat.{RowFits}
 use Rattle.shape.proofs.Flat.{each-row}
-use Rattle.sinotayam.specs.Answer.{tableOf}
+use Rattle.sinotayam.specs.declared.answer.Answer.{Answer}
+use Rattle.sinotayam.specs.Answer.{codeOf, tableOf}
+use Rattle.sinotayam.specs.Demand3.{SafeCall}
 use Rattle.sinotayam.specs.Text.{textBytes, spanOf, spanNumber, textNumber}
 
 -- the rows of a finished reading are read back from the table that it leaves
@@ -61,3 +63,9 @@ row-fits {rs = rs} o before i h =
 pub texts-told : {types : List BookType} {s : List ℕ} {ty id : ℕ} {rs : List Row} → Opened types s ty id rs → (before : List ℕ) (i : ℕ) → i < length rs
     → among (16 ∷ 17 ∷ []) (rowAt (tableOf before rs) i .kind) ≡ true → textNumber (tableOf before rs) i s ≡ 0
 texts-told {s = s} {rs = rs} o before i h t = fitting (rowAt (tableOf before rs) i) s (row-fits o before i h) t
+
+-- WHAT THE TABLE HOLDS after a call that answers 0: each of its rows
+pub call-rows : (book s : List ℕ) (root : ℕ) (before after : List ℕ) (r : Answer) → SafeCall book s root before after r → codeOf (r .status) ≡ 0 → (i : ℕ) → i < r .rows → (later : List Row) × RowFits (typesOf book) s (rowAt after i) later
+call-rows book s root before after r safe z i h =
+    let held = safe .rows z in
+    (drop (suc i) (held .0), rw (held .3) (row-fits (held .1) before i (omega (arith, held .2))))
