@@ -17,7 +17,8 @@ use Rattle.table.specs.Code.Rows.{Filled}
 use Rattle.table.proofs.Filling.{filled-first, filled-rest}
 use Rattle.choice.specs.declared.discriminator.Discriminator.{Discriminator}
 use Rattle.choice.specs.declared.discriminator.Discriminator.the-variants.{Absent, Unfit, Value}
-use Rattle.choice.specs.Discriminator.{discriminatorIn, enumIn, discriminatorOf, discriminatorAt}
+use Rattle.choice.specs.Discriminator.{discriminatorIn, enumIn, discriminatorOf}
+use Rattle.choice.specs.Code.Discriminator.{discriminatorAt}
 
 module _ (r : Row) where
   abbrev fits : Bool

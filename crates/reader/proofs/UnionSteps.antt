@@ -26,7 +26,8 @@ use Rattle.book.specs.Types.{BookType, Member}
 use Rattle.book.specs.Places.{memberAt, typeAt, later, Started}
 use Rattle.book.specs.Labels.{told}
 use Rattle.book.proofs.Places.{run-more, run-none}
-use Rattle.choice.specs.Discriminator.{discriminatorOf, discriminatorAt}
+use Rattle.choice.specs.Discriminator.{discriminatorOf}
+use Rattle.choice.specs.Code.Discriminator.{discriminatorAt}
 use Rattle.choice.specs.Select.{selectedOf}
 use Rattle.choice.specs.declared.discriminator.Discriminator.{Discriminator}
 use Rattle.choice.specs.declared.discriminator.Discriminator.the-variants.{Absent, Unfit, Value}

@@ -10,12 +10,12 @@ use Rattle.wire.specs.Identifier.{settingsOf}
 use Rattle.book.specs.Types.{BookType, typesOf}
 use Rattle.book.specs.Rules.{bookOk}
 use Rattle.reader.specs.Nested.{reading}
-use Rattle.sinotayam.specs.declared.answer.Number.{Number}
-use Rattle.sinotayam.specs.declared.answer.Number.the-variants.{NotEnoughData, InvalidData, BadBook, BadRoot, TooLong}
+use Rattle.sinotayam.specs.declared.answer.Status.{Status}
+use Rattle.sinotayam.specs.declared.answer.Status.the-variants.{NotEnoughData, InvalidData, BadBook, BadRoot, TooLong}
 use Rattle.sinotayam.specs.Answer.{Result, refusedBy, resultOf}
 
 -- this number where the test passes, else what follows
-unfoldable pub refusedIf : Bool → Number → Result → Result
+unfoldable pub refusedIf : Bool → Status → Result → Result
 refusedIf true n next = refusedBy n
 refusedIf false n next = next
 

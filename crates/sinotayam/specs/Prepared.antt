@@ -9,7 +9,7 @@ use Rattle.ground.specs.Choice.{pick, both}
 use Rattle.book.specs.Types.{BookType, typeCount}
 use Rattle.book.specs.Places.{placesFrom, typesBy}
 use Rattle.book.specs.Rules.{bookOk}
-use Rattle.sinotayam.specs.declared.answer.Number.the-variants.{BadBook}
+use Rattle.sinotayam.specs.declared.answer.Status.the-variants.{BadBook}
 use Rattle.sinotayam.specs.Answer.{Result}
 use Rattle.sinotayam.specs.Entry.{refusedIf, messageBy, dataBy}
 

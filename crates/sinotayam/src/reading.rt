@@ -7,7 +7,7 @@ ghost use Rattle.table.specs.Rows.{capacity};
 ghost use Rattle.sinotayam.specs.Answer.{resultOf, Settled};
 ghost use Rattle.sinotayam.specs.Entry.{byIdentifier, dataBy};
 use crate::answer::Answer;
-use crate::answer::Number;
+use crate::answer::Status;
 use crate::answer::refused;
 use reader::top_level_type;
 use table::out::Out;
@@ -37,12 +37,12 @@ fn data_as(
         Out::Read(_, rows) => {
             clear_after(table, rows);
             Answer {
-                number: Number::Read,
+                status: Status::Read,
                 rows,
             }
         }
-        Out::Short(_) => refused(table, Number::NotEnoughData),
-        Out::Refused(k) => refused(table, Number::of_refusal(k)),
+        Out::Short(_) => refused(table, Status::NotEnoughData),
+        Out::Refused(k) => refused(table, Status::of_refusal(k)),
     }
 }
 
@@ -59,7 +59,7 @@ pub fn identified(
 {
     match settings_of(id) {
         Representation::Known(set) => data_as(book, places, root, set, s, table),
-        Representation::Unknown => refused(table, Number::InvalidData),
+        Representation::Unknown => refused(table, Status::InvalidData),
     }
 }
 
@@ -75,10 +75,10 @@ pub fn data_by(
     ensures { λ r. ⌜ Settled (dataBy (typesBy (now (book .entry)) (now (places .entry))) root id (now (s .entry)) (capacity (now (table .entry)))) (now (table .entry)) (now (table .exit)) r ⌝ }
 {
     if places.len() <= root {
-        return refused(table, Number::BadRoot);
+        return refused(table, Status::BadRoot);
     }
     if LONGEST - HEADER < s.len() {
-        return refused(table, Number::TooLong);
+        return refused(table, Status::TooLong);
     }
     identified(book, places, root, id, s, table)
 }

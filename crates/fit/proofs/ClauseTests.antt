@@ -1,11 +1,11 @@
 -- Laws of the clauses: one for each way that a test of them goes. Assumes nothing.
 use Prim.Native.Nat.{ℕ, _<_, _≤_}
-use mathlib.Core.Path.{_≡_, sym, ap, _∙_}
-use mathlib.Core.Bool.{Bool, true, false, not, _||_, or-assoc, or-false}
+use mathlib.Core.Path.{_≡_, refl, sym, ap, _∙_}
+use mathlib.Core.Bool.{Bool, true, false, not, _&&_, _||_, or-assoc, or-false}
 use mathlib.Core.List.{List, [], _∷_}
 use native.Mathlib.Omega.{arith}
 use lib.Dec.{eqb}
-use borrow.Author.Tests.{eq-eqb, ne-eqb, not-true, not-false}
+use borrow.Author.Tests.{eq-eqb, ne-eqb}
 use Rattle.ground.specs.Choice.{both, every, among}
 use Rattle.kinds.specs.Kinds.{unsupportedMember, unsupportedElement, bitmaskStored}
 use Rattle.book.specs.declared.member.Run.{Run}
@@ -13,8 +13,7 @@ use Rattle.book.specs.Types.{BookType, Member, bounded, typeNo}
 use Rattle.book.specs.Places.{memberAt, typeAt, typesBy, listed, Started, PlaceOf}
 use Rattle.book.proofs.Places.{run-more, run-none}
 use Rattle.book.proofs.Judging.{every-laws}
-use Rattle.fit.specs.Fit.{memberSupported, membersSupported, elementSupported, baseSupported, chooses, firstChooses, discriminatorFits}
-use Rattle.fit.specs.Check.{clausesMet}
+use Rattle.fit.specs.Fit.{memberSupported, membersSupported, elementSupported, baseSupported, chooses, firstChooses, discriminatorFits, checkClauses, meets}
 
 -- the kind of the type with a number, by its place
 pub kind-there : (b index : List ℕ) (k p r : ℕ) → PlaceOf b index k p → r ≡ typeAt b p .kind → r ≡ typeNo (typesBy b index) k .kind
@@ -52,13 +51,13 @@ mask-chooses : (k stored : ℕ) → k ≡ 19 → ((eqb stored 13 || eqb stored 6
 mask-chooses k stored e = rw e (simp (or-assoc, or-false))
 
 module _ (t : BookType) (kind : ℕ) (is : kind ≡ t .kind) where
-  pub base-is : kind ≡ 21 → (base : ℕ) → base ≡ t .base → ((eqb base 3 || eqb base 4) || eqb base 12) ≡ baseSupported t
+  pub base-is : kind ≡ 21 → (base : ℕ) → base ≡ t .base → (types : List BookType) → ((eqb base 3 || eqb base 4) || eqb base 12) ≡ baseSupported types t
   unfolding baseSupported
-  base-is e base f = rw (← is, eq-eqb kind 21 e, f) (simp (or-assoc, or-false))
+  base-is e base f types = rw (← is, eq-eqb kind 21 e, f) (simp (or-assoc, or-false))
 
-  pub base-none : (kind ≡ 21 → ⊥) → true ≡ baseSupported t
+  pub base-none : (kind ≡ 21 → ⊥) → (types : List BookType) → true ≡ baseSupported types t
   unfolding baseSupported
-  base-none n = rw (← is, ne-eqb kind 21 n)
+  base-none n types = rw (← is, ne-eqb kind 21 n)
 
   pub chooses-mask : kind ≡ 19 → (f : Bool) (n stored : ℕ) → f ≡ bounded t → n ≡ t .bound → stored ≡ bitmaskStored f n → ((eqb stored 13 || eqb stored 6) || eqb stored 7) ≡ chooses t
   unfolding chooses
@@ -94,21 +93,14 @@ module _ (types : List BookType) (b : List ℕ) (at kind : ℕ) (is : kind ≡ t
         g ∙ ap chooses q ∙ sym (first-is ∙ ap (firstChooses types) (run-more b ms h))
 
 -- ---- all of them
-module _ (types : List BookType) (t : BookType) (a b c : Bool) (p : a ≡ membersSupported types t) where
-  pub met-members : not a ≡ true → false ≡ clausesMet types t
-  unfolding clausesMet
-  met-members h = rw (← p, not-true a h)
+in-turn : (a b c d : Bool) → (((a && b) && c) && d) ≡ both a (both b (both c (both d true)))
+in-turn false b c d = refl
+in-turn true false c d = refl
+in-turn true true false d = refl
+in-turn true true true false = refl
+in-turn true true true true = refl
 
-  module _ (ok : not a ≡ false) (q : b ≡ elementSupported types t) where
-    pub met-element : not b ≡ true → false ≡ clausesMet types t
-    unfolding clausesMet
-    met-element h = rw (← p, not-false a ok, ← q, not-true b h)
-
-    module _ (fine : not b ≡ false) (r : c ≡ baseSupported t) where
-      pub met-base : not c ≡ true → false ≡ clausesMet types t
-      unfolding clausesMet
-      met-base h = rw (← p, not-false a ok, ← q, not-false b fine, ← r, not-true c h)
-
-      pub met-all : not c ≡ false → (d : Bool) → d ≡ discriminatorFits types t → d ≡ clausesMet types t
-      unfolding clausesMet
-      met-all h d e = rw (← p, not-false a ok, ← q, not-false b fine, ← r, not-false c h) e
+pub all-met : (types : List BookType) (t : BookType) (a b c d : Bool) → a ≡ membersSupported types t → b ≡ elementSupported types t
+    → ((ts : List BookType) → c ≡ baseSupported ts t) → d ≡ discriminatorFits types t → (((a && b) && c) && d) ≡ meets checkClauses types t
+unfolding meets checkClauses every
+all-met types t a b c d p q r s = rw (← p, ← q, ← r types, ← s) (in-turn a b c d)

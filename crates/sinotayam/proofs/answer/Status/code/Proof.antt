@@ -1,7 +1,7 @@
 use Rattle.sinotayam.specs.Answer.{codeOf}
 use borrow.Author.Needs.{needs}
-use Rattle.sinotayam.proofs.answer.Number.code.Statement.{statement}
-use Rattle.sinotayam.proofs.answer.Number.code.Tie as tie
+use Rattle.sinotayam.proofs.answer.Status.code.Statement.{statement}
+use Rattle.sinotayam.proofs.answer.Status.code.Tie as tie
 
 enum-told : tie.Need-enum-told
 enum-told c = search needs

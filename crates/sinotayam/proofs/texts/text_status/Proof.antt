@@ -1,7 +1,7 @@
 use Rattle.sinotayam.proofs.Spans.{number-at, number-none}
 use borrow.Author.Needs.{needs}
-use Rattle.sinotayam.proofs.texts.text_number.Statement.{statement}
-use Rattle.sinotayam.proofs.texts.text_number.Tie as tie
+use Rattle.sinotayam.proofs.texts.text_status.Statement.{statement}
+use Rattle.sinotayam.proofs.texts.text_status.Tie as tie
 
 span-in-requires : tie.Need-span-in-requires
 span-in-requires c κs = search needs
@@ -18,5 +18,5 @@ returns c = search (needs, number-at)
 returns-2 : tie.Need-returns-2
 returns-2 c = search (needs, number-none)
 
-pub text-number-spec : {M : Type 1} → statement M
-text-number-spec = tie.close (tie.spec span-in-requires enum-told enum-told-2 returns returns-2)
+pub text-status-spec : {M : Type 1} → statement M
+text-status-spec = tie.close (tie.spec span-in-requires enum-told enum-told-2 returns returns-2)

@@ -3,24 +3,28 @@
 use Prim.Native.Nat.{ℕ, suc, _+_, _*_, _≤_}
 use mathlib.Core.Path.{_≡_}
 use mathlib.Core.Bool.{Bool, true}
-use mathlib.Core.List.{List, [], _∷_, _++_}
+use mathlib.Core.List.{List, [], _∷_, _++_, List·Memᴰ}
 use mathlib.Core.Option.{some}
 use lib.ListN.{length}
 use lib.IntN.{ℤ}
-use Rattle.ground.specs.Choice.{among}
-use Rattle.kinds.specs.Kinds.{storedOf}
-use Rattle.book.specs.Types.{BookType, Member, typeNo}
+use lib.Dec.{eqb}
+use Rattle.ground.specs.Choice.{pick, among}
+use Rattle.kinds.specs.Kinds.{storedOf, bitmaskStored}
+use Rattle.book.specs.Types.{BookType, Member, bounded, typeNo}
 use Rattle.table.specs.declared.rows.Row.{Row}
 use Rattle.table.specs.Rows.{row}
 use Rattle.choice.specs.Discriminator.{discriminatorOf}
 use Rattle.choice.specs.Select.{selectedOf}
 use Rattle.choice.specs.declared.discriminator.Discriminator.the-variants as discriminator
-use Rattle.reader.specs.Value.{readAs}
-use Rattle.fit.specs.Fit.{OneOf}
+use Rattle.shape.specs.Range.{inRange}
 
--- a type's stored kind: "BYTE is stored as 13. A bitmask is 13, 6, 7 or 8 by bound", "Sequences and arrays: kind 25", others their own
+-- x stands in the list
+abbrev pub OneOf : {A : Type 0} → A → List A → Type 0
+OneOf x xs = List·Memᴰ x xs
+
+-- a type's stored kind: "A bitmask is 13, 6, 7 or 8 by bound"; by its own kind any other: "BYTE is stored as 13.", "Sequences and arrays: kind 25"
 unfoldable pub storedKind : BookType → ℕ
-storedKind t = storedOf (readAs t)
+storedKind t = pick (eqb (t .kind) 19) (bitmaskStored (bounded t) (t .bound)) (storedOf (t .kind))
 
 -- "Scalars": 1 BOOLEAN to 14 CHAR8, and 19 BITMASK
 unfoldable pub isScalar : BookType → Bool
@@ -46,8 +50,8 @@ mutual
 
   -- a value that is no list: a scalar, a text, or a structure, enum or union
   pub data Single (types : List BookType) (s : List ℕ) : ℕ → ℕ → List Row → Type 0 where
-    -- "Scalars put the value in a", and FLOAT128 its high half in b
-    scalar : {ty id : ℕ} (a b : ℕ) → isScalar (typeNo types ty) ≡ true → Single types s ty id (row (storedKind (typeNo types ty)) id a b ∷ [])
+    -- "Scalars put the value in a", in the range of the kind that its row has; FLOAT128 its high half in b, which is 0 for any other
+    scalar : {ty id : ℕ} (a b : ℕ) → isScalar (typeNo types ty) ≡ true → inRange (storedKind (typeNo types ty)) a b ≡ true → Single types s ty id (row (storedKind (typeNo types ty)) id a b ∷ [])
     -- "Text 16: a start in the data, b bytes; 17: b 16-bit units."
     text8 : {ty id : ℕ} (start n : ℕ) → typeNo types ty .kind ≡ 16 → Inside s start n 1 → Single types s ty id (row 16 id start n ∷ [])
     text16 : {ty id : ℕ} (start n : ℕ) → typeNo types ty .kind ≡ 17 → Inside s start n 2 → Single types s ty id (row 17 id start n ∷ [])
@@ -64,8 +68,8 @@ mutual
 
   -- what stands beneath the row of an enum, a structure, a union
   pub data Beneath (types : List BookType) (s : List ℕ) : BookType → List Row → Type 0 where
-    -- an enum's value has the kind of its base, INT16, INT32 or INT8, and id 0
-    enum : {t : BookType} (a b : ℕ) → t .kind ≡ 21 → among (3 ∷ 4 ∷ 12 ∷ []) (t .base) ≡ true → Beneath types s t (row (t .base) 0 a b ∷ [])
+    -- an enum's value has the kind of its base, INT16, INT32 or INT8, and id 0; it is any number in the base's range
+    enum : {t : BookType} (a b : ℕ) → t .kind ≡ 21 → among (3 ∷ 4 ∷ 12 ∷ []) (t .base) ≡ true → inRange (t .base) a b ≡ true → Beneath types s t (row (t .base) 0 a b ∷ [])
     structure : {t : BookType} {rs : List Row} → t .kind ≡ 22 → Members types s (t .members) rs → Beneath types s t rs
     -- the discriminator, and the one other member that its value selects
     union : {t : BookType} {disc m : Member} {others : List Member} {ds rs : List Row} (value : ℤ) → t .kind ≡ 23 → t .members ≡ disc ∷ others

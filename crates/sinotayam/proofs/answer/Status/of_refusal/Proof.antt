@@ -1,8 +1,8 @@
 use Rattle.table.specs.Outcome.{refusalNumber}
 use Rattle.sinotayam.specs.Answer.{codeOf}
 use borrow.Author.Needs.{needs}
-use Rattle.sinotayam.proofs.answer.Number.of_refusal.Statement.{statement}
-use Rattle.sinotayam.proofs.answer.Number.of_refusal.Tie as tie
+use Rattle.sinotayam.proofs.answer.Status.of_refusal.Statement.{statement}
+use Rattle.sinotayam.proofs.answer.Status.of_refusal.Tie as tie
 
 enum-told : tie.Need-enum-told
 enum-told c = search needs

@@ -13,10 +13,11 @@ use Rattle.kinds.specs.Kinds.{opens}
 use Rattle.book.specs.Types.{BookType, typeNo}
 use Rattle.table.specs.declared.rows.Row.{Row}
 use Rattle.table.specs.Rows.{row}
-use Rattle.fit.specs.Shape as shape
-use Rattle.fit.specs.Shape.{Opened, Beneath, Inside, storedKind}
-use Rattle.fit.specs.Flat.{RowFits}
-use Rattle.fit.proofs.KindTests.{among-each, scalar-row, scalar-kinds}
+use Rattle.shape.specs.Shape as shape
+use Rattle.shape.specs.Shape.{Opened, Beneath, Inside, storedKind}
+use Rattle.shape.specs.Range.{scalarRows, inRange}
+use Rattle.shape.specs.Flat.{RowFits}
+use Rattle.shape.proofs.KindTests.{among-each, scalar-row}
 
 -- a row's kind that is no text's and opens nothing
 abbrev simple : ℕ → Bool
@@ -33,9 +34,9 @@ not-text16 : (k : ℕ) → simple k ≡ true → k ≡ 17 → ⊥
 unfolding opens
 not-text16 k e z = apart (rw z at e)
 
-simple-scalar : (k : ℕ) → among scalar-kinds k ≡ true → simple k ≡ true
+simple-scalar : (k : ℕ) → among scalarRows k ≡ true → simple k ≡ true
 unfolding opens every
-simple-scalar k e = among-each simple scalar-kinds tt k e
+simple-scalar k e = among-each simple scalarRows tt k e
 
 simple-base : (k : ℕ) → among (3 ∷ 4 ∷ 12 ∷ []) k ≡ true → simple k ≡ true
 unfolding opens every
@@ -45,9 +46,20 @@ simple-list : simple 25 ≡ true
 unfolding opens
 simple-list = refl
 
-opened-no-text : (k n : ℕ) → k ≡ n → opens n ≡ true → (k ≡ 16 → ⊥) × (k ≡ 17 → ⊥)
-unfolding opens
-opened-no-text k n e o = (λ z. apart (rw (sym e ∙ z) at o), λ z. apart (rw (sym e ∙ z) at o))
+-- what is opened is no text, and no scalar
+record NoValue (k : ℕ) : Type 0 where
+  text8 : k ≡ 16 → ⊥
+  text16 : k ≡ 17 → ⊥
+  scalar : among scalarRows k ≡ true → ⊥
+
+opened-no-value : (k : ℕ) → opens k ≡ true → NoValue k
+unfolding opens every
+opened-no-value k o =
+    record {
+      text8 = λ z. apart (rw z at o);
+      text16 = λ z. apart (rw z at o);
+      scalar = λ z. apart (rw o at (among-each (λ n. not (opens n)) scalarRows tt k z));
+    }
 
 module _ (types : List BookType) (s : List ℕ) where
   -- the rows of an opened row's own value, and those after them
@@ -59,6 +71,7 @@ module _ (types : List BookType) (s : List ℕ) where
     value : Opened types s (r .a) (r .id) (r ∷ own)
 
   record Stands (r : Row) (after : List Row) : Type 0 where
+    scalar : among scalarRows (r .kind) ≡ true → inRange (r .kind) (r .a) (r .b) ≡ true
     text8 : r .kind ≡ 16 → Inside s (r .a) (r .b) 1
     text16 : r .kind ≡ 17 → Inside s (r .a) (r .b) 2
     opened : opens (r .kind) ≡ true → Heads r after
@@ -71,6 +84,7 @@ module _ (types : List BookType) (s : List ℕ) where
   longer : (r : Row) (after more : List Row) → Stands r after → Stands r (after ++ more)
   longer r after more x =
       record {
+        scalar = x .scalar;
         text8 = x .text8;
         text16 = x .text16;
         opened =
@@ -89,9 +103,10 @@ module _ (types : List BookType) (s : List ℕ) where
   both-each [] ss x y = y
   both-each (r ∷ rs) ss x y = (longer r rs ss (x .0), both-each rs ss (x .1) y)
 
-  other : (r : Row) (after : List Row) → simple (r .kind) ≡ true → Stands r after
-  other r after e =
+  other : (r : Row) (after : List Row) → simple (r .kind) ≡ true → (among scalarRows (r .kind) ≡ true → inRange (r .kind) (r .a) (r .b) ≡ true) → Stands r after
+  other r after e range =
       record {
+        scalar = range;
         text8 = λ z. absurd (not-text8 (r .kind) e z);
         text16 = λ z. absurd (not-text16 (r .kind) e z);
         opened = λ o. absurd (not-opened (r .kind) e o);
@@ -100,19 +115,20 @@ module _ (types : List BookType) (s : List ℕ) where
   single : (r : Row) → Stands r [] → EachRow (r ∷ [])
   single r x = (x, tt)
 
-  no-text : {t : BookType} {rs : List Row} → Beneath types s t rs → (t .kind ≡ 16 → ⊥) × (t .kind ≡ 17 → ⊥)
+  no-value : {t : BookType} {rs : List Row} → Beneath types s t rs → NoValue (t .kind)
   unfolding opens
-  no-text {t} (shape.enum a b e f) = opened-no-text (t .kind) 21 e refl
-  no-text {t} (shape.structure e x) = opened-no-text (t .kind) 22 e refl
-  no-text {t} (shape.union v e q h d g o x) = opened-no-text (t .kind) 23 e refl
+  no-value {t} (shape.enum a b e f g) = opened-no-value (t .kind) (rw e)
+  no-value {t} (shape.structure e x) = opened-no-value (t .kind) (rw e)
+  no-value {t} (shape.union v e q h d g o x) = opened-no-value (t .kind) (rw e)
 
   -- an opened row, by what stands beneath it
   opener : (ty id : ℕ) (rs : List Row) → Beneath types s (typeNo types ty) rs → Stands (row (typeNo types ty .kind) id ty (length rs)) rs
   opener ty id rs b =
-      let z = no-text b in
+      let z = no-value b in
       record {
-        text8 = λ e. absurd (z .0 e);
-        text16 = λ e. absurd (z .1 e);
+        scalar = λ e. absurd (z .scalar e);
+        text8 = λ e. absurd (z .text8 e);
+        text16 = λ e. absurd (z .text16 e);
         opened = λ o. record { own = rs; more = []; split = sym (append-nil rs); count = refl; value = shape.opened b };
       }
 
@@ -121,18 +137,18 @@ module _ (types : List BookType) (s : List ℕ) where
   opened-rows o =
       elim o as (λ ty id rs x. EachRow rs) (λ ty id rs x. EachRow rs) (λ ty n i rs x. EachRow rs) (λ ty id rs x. EachRow rs) (λ t rs x. EachRow rs) (λ ms rs x. EachRow rs) (λ m rs x. EachRow rs) [
         | shape.one (x → h) ↦ h
-        | shape.sequence {rs = rs} n e (x → h) ↦ (other _ rs simple-list, h)
-        | shape.array {rs = rs} e (x → h) ↦ (other _ rs simple-list, h)
-        | shape.scalar {ty = ty} a b n ↦ single _ (other _ [] (simple-scalar (storedKind (typeNo types ty)) (scalar-row (typeNo types ty) n)))
+        | shape.sequence {rs = rs} n e (x → h) ↦ (other _ rs simple-list (λ z. absurd (apart z)), h)
+        | shape.array {rs = rs} e (x → h) ↦ (other _ rs simple-list (λ z. absurd (apart z)), h)
+        | shape.scalar {ty = ty} a b n g ↦ single _ (other _ [] (simple-scalar (storedKind (typeNo types ty)) (scalar-row (typeNo types ty) n)) (λ z. g))
         | shape.text8 start n e i ↦
-            single _ (record { text8 = λ z. i; text16 = λ z. absurd (omega arith); opened = λ o. absurd (opened-no-text 16 16 refl o .0 refl) })
+            single _ (record { scalar = λ z. absurd (apart z); text8 = λ z. i; text16 = λ z. absurd (omega arith); opened = λ o. absurd (opened-no-value 16 o .text8 refl) })
         | shape.text16 start n e i ↦
-            single _ (record { text8 = λ z. absurd (omega arith); text16 = λ z. i; opened = λ o. absurd (opened-no-text 17 17 refl o .1 refl) })
+            single _ (record { scalar = λ z. absurd (apart z); text8 = λ z. absurd (omega arith); text16 = λ z. i; opened = λ o. absurd (opened-no-value 17 o .text16 refl) })
         | shape.nested (x → h) ↦ h
         | shape.no-element ↦ tt
         | shape.element {rs = rs} {ss = ss} (x → h) (y → k) ↦ both-each rs ss h k
         | shape.opened {ty = ty} {id = id} {rs = rs} (b → h) ↦ (opener ty id rs b, h)
-        | shape.enum {t = t} a b e f ↦ single _ (other _ [] (simple-base (t .base) f))
+        | shape.enum {t = t} a b e f g ↦ single _ (other _ [] (simple-base (t .base) f) (λ z. g))
         | shape.structure e (x → h) ↦ h
         | shape.union {ds = ds} {rs = rs} v e q (x → h) d g o (y → k) ↦ both-each ds rs h k
         | shape.no-member ↦ tt
@@ -144,6 +160,7 @@ module _ (types : List BookType) (s : List ℕ) where
   fits-row : (r : Row) (after : List Row) → Stands r after → RowFits types s r after
   fits-row r after x =
       record {
+        scalar = x .scalar;
         text8 = x .text8;
         text16 = x .text16;
         opened =
