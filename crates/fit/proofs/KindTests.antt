@@ -4,10 +4,10 @@ use mathlib.Core.Path.{_≡_, refl, sym, ap, _∙_}
 use mathlib.Core.Bool.{Bool, true, false, not, _||_}
 use mathlib.Core.List.{List, [], _∷_}
 use native.Mathlib.Omega.{arith}
-use lib.Dec.{eqb, T}
+use lib.Dec.{eqb, leb, leb→le, T}
 use borrow.Author.Tests.{eqb-true, ne-eqb, not-true}
 use Rattle.ground.specs.Choice.{pick, both, every, among, _‥_, within}
-use Rattle.ground.proofs.Tests.{apart, both-first, both-second}
+use Rattle.ground.proofs.Tests.{apart, both-first, both-second, both-right}
 use Rattle.ground.proofs.Between.{passes, between}
 use Rattle.book.specs.Types.{BookType, bounded}
 use Rattle.kinds.specs.Kinds.{isPrimitive, storedOf, opens, unsupportedMember, unsupportedElement, bitmaskStored, storedByBound}
@@ -152,7 +152,10 @@ module _ (t : BookType) where
   pub opened-kind : t .kind ≤ 27 → opens (t .kind) ≡ true → storedKind t ≡ t .kind
   opened-kind h o = let k = opened-stored (t .kind) h o in plain-stored t (k .0) ∙ k .1
 
-  -- BYTE and UINT8 are read as they are
-  pub block-kind : among (2 ∷ 13 ∷ []) (t .kind) ≡ true → readAs t ≡ t .kind
-  unfolding every
-  block-kind e = plain-read (not-true (eqb (t .kind) 19) (among-each (λ k. not (eqb k 19)) (2 ∷ 13 ∷ []) tt (t .kind) e))
+  -- primitives are read as they are
+  pub primitive-read : isPrimitive (t .kind) ≡ true → readAs t ≡ t .kind
+  unfolding isPrimitive
+  primitive-read e =
+      let i : T (both (leb 1 (t .kind)) (leb (t .kind) 15)) = rw e tt in
+      let high : t .kind ≤ 15 = leb→le (t .kind) 15 (both-right (leb 1 (t .kind)) (leb (t .kind) 15) i) in
+      plain-read (ne-eqb (t .kind) 19 (λ z. omega arith))

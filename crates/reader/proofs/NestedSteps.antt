@@ -23,7 +23,8 @@ use Rattle.wire.specs.declared.dheader.Contents.{Contents}
 use Rattle.wire.specs.declared.dheader.Contents.the-variants as contents
 use Rattle.wire.proofs.Contents.{contents-short, contents-between}
 use Rattle.ground.specs.Choice.{both}
-use Rattle.kinds.specs.Kinds.{opens}
+use Rattle.kinds.proofs.Table.{opened-stored}
+use Rattle.kinds.specs.Kinds.{storedOf, opens}
 use Rattle.book.specs.Types.{BookType, typeNo}
 use Rattle.book.specs.Places.{typeAt, typesBy, PlaceOf}
 use Rattle.table.specs.declared.out.Refusal.the-variants.{InvalidType, TooDeep, NoRoom}
@@ -156,8 +157,10 @@ module _ {b index : List ℕ} {ty p k : ℕ} {o : Bool} (at : PlaceOf b index ty
         h : Done (beneath (room t (n + 1))) (n + 1) t u r
         h = rw made at given
 
-        pub nested-read : (e : Cursor) (m : ℕ) (v : List ℕ) → r ≡ Read e m → v ≡ putRow u n (row k id ty (m - n - 1)) → Done nested n t v (Read e m)
-        nested-read = row-read k id ty beneath t n f full (is-opened deep) fits u r h
+        pub nested-read : (e : Cursor) (m : ℕ) (v : List ℕ) → r ≡ Read e m → {x : ℕ} → x ≡ storedOf k → v ≡ putRow u n (row x id ty (m - n - 1)) → Done nested n t v (Read e m)
+        nested-read e m v q l p =
+            let z : v ≡ putRow u n (row k id ty (m - n - 1)) = p ∙ ap (λ (y : ℕ). putRow u n (row y id ty (m - n - 1))) (l ∙ opened-stored k (sym is ∙ opened)) in
+            row-read k id ty beneath t n f full (is-opened deep) fits u r h e m v q z
 
         pub nested-short : (x : Shortage) → r ≡ Short x → Done nested n t u (Short x)
         nested-short = row-short k id ty beneath t n f full (is-opened deep) fits u r h

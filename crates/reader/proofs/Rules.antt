@@ -3,7 +3,7 @@ use Rattle.table.proofs.Outcomes.{count-from, count-past}
 use Rattle.table.proofs.Filling.{full-fits}
 use Rattle.values.proofs.Scalars.{row-next}
 use Rattle.reader.proofs.RunSteps.{run-start, run-end}
-use Rattle.reader.proofs.ValueSteps.{elements-unsupported, elements-full, elements-opened, elements-block, elements-list, value-none, value-unsupported, value-nested, value-list, value-scalar, list-short, list-got}
+use Rattle.reader.proofs.ValueSteps.{elements-unsupported, elements-full, elements-opened, elements-primitives, elements-others, value-none, value-unsupported, value-nested, value-list, value-scalar, list-short, list-got}
 use Rattle.reader.proofs.MemberSteps.{found-length, found-value, found-opens, mmember-short, mmember-absent, mmember-read, mmember-fell, mmember-refused, optional-looked, optional-short, optional-bad, optional-absent, optional-present, fmember-optional, fmember-opens, fmember-value}
 use Rattle.reader.proofs.StructureSteps.{fmembers-start, fmembers-end}
 use Rattle.reader.proofs.LookedSteps.{mstruct-short, mstruct-members, mstruct-hint}
@@ -40,4 +40,4 @@ pub ruleset value-laws = (value-none, value-unsupported, value-nested, value-lis
 
 pub ruleset listed-laws = (list-short, list-got)
 
-pub ruleset elements-laws = (elements-unsupported, elements-full, elements-opened, elements-block, elements-list, full-fits, row-next)
+pub ruleset elements-laws = (elements-unsupported, elements-full, elements-opened, elements-primitives, elements-others, full-fits, row-next)

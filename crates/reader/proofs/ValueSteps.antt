@@ -24,12 +24,13 @@ use Rattle.table.proofs.Outcomes.{is-read, is-short, is-refused, is-same, is-af
 use Rattle.wire.specs.declared.number.Number.{Number}
 use Rattle.wire.specs.declared.number.Number.the-variants as number
 use Rattle.wire.proofs.Numbers.{after-got, after-none}
-use Rattle.kinds.specs.Kinds.{unsupportedMember, unsupportedElement, opens}
+use Rattle.kinds.proofs.Table.{opened-stored, sequence-stored}
+use Rattle.kinds.specs.Kinds.{storedOf, isPrimitive, unsupportedMember, unsupportedElement, opens}
 use Rattle.book.specs.Types.{BookType, typeNo}
 use Rattle.book.specs.Places.{typeAt, typesBy, PlaceOf}
 use Rattle.table.specs.declared.out.Refusal.the-variants.{Unsupported, NoRoom}
 use Rattle.values.specs.Scalar.{scalarOf}
-use Rattle.values.specs.List.{listOf, blockOf}
+use Rattle.values.specs.List.{primitivesOf, bitmasksOrTextsOf}
 use Rattle.values.specs.Header.{countFrom}
 use Rattle.reader.specs.Code.Run.{runOf}
 use Rattle.reader.proofs.RunSteps.{run-single, run-list}
@@ -75,24 +76,22 @@ module _ (b index s : List ℕ) (set : Settings) (nest : Nest) (ty id : ℕ) (c 
       pub elements-full : y ≡ true → (z : Bool) → z ≡ noRoom t n → z ≡ true → Done elements n t t (Refused NoRoom)
       elements-full h z i j = is-refused (opened-list h ∙ no-room t n _ z i j) (filled-none t n)
 
-      pub elements-opened : y ≡ true → (z : Bool) → z ≡ noRoom t n → z ≡ false → (u : List ℕ) → u ≡ putRow t n (row 25 id k count) → (v : List ℕ) (r : Out)
+      pub elements-opened : y ≡ true → (z : Bool) → z ≡ noRoom t n → z ≡ false → (i₁ i₂ : ℕ) → i₁ ≡ storedOf 25 → i₂ ≡ storedOf k → (u : List ℕ) → u ≡ putRow t n (row i₁ id i₂ count) → (v : List ℕ) (r : Out)
           → Done (runOf nest ty 0 count 0 c (room u (n + 1))) (n + 1) u v r → Done elements n t v r
-      elements-opened h z i j u q v r d =
-          let w : Filled t u n (row 25 id k count ∷ []) = rw q (filled-one t n (row 25 id k count) (full-fits t n z i j)) in
+      elements-opened h z i j i₁ i₂ l m u q v r d =
+          let w : Filled t u n (row 25 id k count ∷ []) = rw (q, l ∙ sequence-stored, m ∙ opened-stored k (sym g ∙ h)) (filled-one t n (row 25 id k count) (full-fits t n z i j)) in
           is-same (opened-list h ∙ some-room t n _ z i j ∙ ap (λ (m : ℕ). prepend (row 25 id k count ∷ []) (openedFrom (typesBy b index) s set nest ty count 0 c m)) (room-used t u n 1 (w .long))
           ∙ ap (prepend (row 25 id k count ∷ [])) (sym (run-list (typesBy b index) s set nest ty count 0 c (room u (n + 1))))) (is-after w d)
 
-      bytes-among : (eqb k 2 || eqb k 13) ≡ among (2 ∷ 13 ∷ []) k
-      bytes-among = simp or-false
+      module _ (h : y ≡ false) (z : Bool) (i : z ≡ isPrimitive k) where
+        pub elements-primitives : z ≡ true → (u : List ℕ) (r : Out) → Done (primitivesOf s set k id count c (room t n)) n t u r → Done elements n t u r
+        unfolding elementsOf
+        elements-primitives j u r d = is-same (rw (kind-no, ← e, f, ← g, h, ← i, j)) d
 
-      pub elements-block : y ≡ false → (eqb k 2 || eqb k 13) ≡ true → (u : List ℕ) (r : Out) → Done (blockOf s set k id count c (room t n)) n t u r → Done elements n t u r
-      unfolding elementsOf
-      elements-block h i u r d = is-same (rw (kind-no, ← e, f, ← g, h, sym bytes-among ∙ i)) d
-
-      pub elements-list : y ≡ false → (eqb k 2 || eqb k 13) ≡ false → (a : ℕ) → a ≡ readAs (typeAt b p) → (u : List ℕ) (r : Out) → Done (listOf s set a id count c (room t n)) n t u r → Done elements n t u r
-      unfolding elementsOf
-      elements-list h i a j u r d =
-          is-same (rw (tested unsupportedElement x false e f, tested opens y false g h, tested (among (2 ∷ 13 ∷ [])) _ false bytes-among i) (ap (λ (m : ℕ). listOf s set m id count c (room t n)) (ap readAs (sym (at .is)) ∙ sym j))) d
+        pub elements-others : z ≡ false → (a : ℕ) → a ≡ readAs (typeAt b p) → (u : List ℕ) (r : Out) → Done (bitmasksOrTextsOf s set a id count c (room t n)) n t u r → Done elements n t u r
+        unfolding elementsOf
+        elements-others j a l u r d =
+            is-same (rw (tested unsupportedElement x false e f, tested opens y false g h, tested isPrimitive z false i j) (ap (λ (m : ℕ). bitmasksOrTextsOf s set m id count c (room t n)) (ap readAs (sym (at .is)) ∙ sym l))) d
 
   -- a value
   abbrev valued : Outcome

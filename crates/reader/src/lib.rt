@@ -103,11 +103,13 @@ pub fn as_nested(
             Out::Short(x) => return Out::Short(x),
             Out::Refused(why) => return Out::Refused(why),
             Out::Read(e, k) => {
+                let rows = k - m;
+                let beneath = rows - 1;
                 let row = Row {
-                    kind: kind as u64,
+                    kind: kinds::stored_of(kind) as u64,
                     id: number,
                     a: ty as u64,
-                    b: (k - m - 1) as u64,
+                    b: beneath as u64,
                 };
                 put_row(t, m, row);
                 pos = e.pos;

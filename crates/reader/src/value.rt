@@ -12,18 +12,17 @@ use book::index::place;
 use book::types::bound;
 use book::types::element;
 use kinds::names::ARRAY;
-use kinds::names::BYTE;
 use kinds::names::NONE;
 use kinds::names::SEQUENCE;
-use kinds::names::UINT8;
+use kinds::stored_of;
 use table::out::Out;
 use table::out::Refusal;
 use table::rows::Row;
 use table::rows::is_full;
 use table::rows::put_row;
 use values::header::count_from;
-use values::list::block;
-use values::list::list;
+use values::list::bitmasks_or_texts;
+use values::list::primitives;
 use values::scalar::scalar;
 use wire::cursor::Cursor;
 use wire::number::Number;
@@ -122,16 +121,16 @@ pub fn elements(
             return Out::Refused(Refusal::NoRoom);
         }
         let row = Row {
-            kind: 25,
+            kind: stored_of(SEQUENCE) as u64,
             id,
-            a: kind as u64,
+            a: stored_of(kind) as u64,
             b: count,
         };
         put_row(t, n, row);
         return as_nested(book, index, s, set, t, ty, 0, count, c, n + 1, depth);
     }
-    if (kind == BYTE) | (kind == UINT8) {
-        return block(s, set, t, kind, id, count, c, n);
+    if kinds::is_primitive(kind) {
+        return primitives(s, set, t, kind, id, count, c, n);
     }
-    list(s, set, t, read_as(book, p), id, count, c, n)
+    bitmasks_or_texts(s, set, t, read_as(book, p), id, count, c, n)
 }
