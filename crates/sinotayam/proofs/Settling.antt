@@ -8,7 +8,6 @@ use lib.ListN.{length, replicate}
 use Rattle.wire.specs.declared.cursor.Cursor.{Cursor}
 use Rattle.wire.specs.declared.cursor.Shortage.{Shortage}
 use Rattle.wire.specs.declared.settings.Settings.{Settings}
-use Rattle.wire.specs.Place.{cursorAt}
 use Rattle.book.specs.Types.{BookType}
 use Rattle.table.specs.declared.rows.Row.{Row}
 use Rattle.table.specs.declared.out.Refusal.{Refusal}
@@ -20,7 +19,7 @@ use Rattle.table.specs.Outcome.{Outcome, read, refused, refusalNumber, numberOf
 use Rattle.table.specs.Code.Outcome.{Done}
 use Rattle.table.proofs.Filling.{filled-fits}
 use Rattle.table.proofs.Outcomes.{was-read, was-short, was-refused}
-use Rattle.reader.specs.Nested.{nestedAt, reading}
+use Rattle.reader.specs.Nested.{reading}
 use Rattle.sinotayam.specs.declared.answer.Status.{Status}
 use Rattle.sinotayam.specs.declared.answer.Status.the-variants.{Read, NotEnoughData}
 use Rattle.sinotayam.specs.declared.answer.Answer.{Answer}
@@ -55,10 +54,10 @@ settled-rows o t u v e m rs p q f g =
       table = rw (p, g, k, f .long) (ap (λ (l : List ℕ). l ++ replicate (length t - width * length rs) 0) (f .rows));
     }
 
-module _ (types : List BookType) (s : List ℕ) (set : Settings) (root : ℕ) (t u : List ℕ) (c : Cursor) (at : c ≡ cursorAt 0 0) (r : Out) (h : Done (nestedAt types s set 16 root 0 c (room t 0)) 0 t u r) where
-  is-reading : reading types s set root (capacity t) ≡ nestedAt types s set 16 root 0 c (room t 0)
-  unfolding reading room
-  is-reading = rw (at, sub-zero)
+module _ (types : List BookType) (s : List ℕ) (set : Settings) (root : ℕ) (t u : List ℕ) (r : Out) (h : Done (reading types s set root (room t 0)) 0 t u r) where
+  is-reading : reading types s set root (capacity t) ≡ reading types s set root (room t 0)
+  unfolding room
+  is-reading = rw sub-zero
 
   pub whole-fits : (e : Cursor) (m : ℕ) → r ≡ out.Read e m → width * m ≤ length u
   whole-fits e m q =

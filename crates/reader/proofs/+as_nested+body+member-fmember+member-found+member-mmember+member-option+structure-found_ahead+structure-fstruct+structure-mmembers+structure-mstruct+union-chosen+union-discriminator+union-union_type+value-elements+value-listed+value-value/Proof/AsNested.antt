@@ -35,36 +35,36 @@ abbrev μ-loop : lts.MeasureT-loop
 pub closed : (t : ℕ) {M : Type 1} → lts.Closed (E t) (as-nested-at t) as-nested.Post M
 closed t =
     lts.spec (E t) (as-nested-at t) as-nested.Post Inv-loop μ-loop
-    (λ c κs. search (needs, as-nested-laws)) -- place-requires
-    (λ c κs. search (needs, as-nested-laws)) -- kind-at-requires
-    (λ c. search (needs, as-nested-laws)) -- loop-holds
-    (λ c κs. search (needs, as-nested-laws)) -- opens-requires
-    (λ c. search (needs, as-nested-laws)) -- same-length
-    (λ c. run-refused (c .before .before .before .loop .inv) (c .before .before .loop-test .taken) (nested-unfit (c .before .before .before .before .before .place .ensures) (c .before .before .before .before .kind-at .ensures) (c .before .opens .ensures) _ _ _ _ _ _ _ (c .if1 .taken)) refl) -- returns
-    (λ c. search (needs, as-nested-laws)) -- same-length-2
-    (λ c. run-refused (c .before .before .before .before .loop .inv) (c .before .before .before .loop-test .taken) (nested-deep (c .before .before .before .before .before .before .place .ensures) (c .before .before .before .before .before .kind-at .ensures) (c .before .before .opens .ensures) _ _ _ _ _ _ _ (c .before .if1 .left) (c .if2 .taken)) refl) -- returns-2
-    (λ c κs. search (needs, as-nested-laws)) -- is-full-requires
-    (λ c. search (needs, as-nested-laws)) -- same-length-3
-    (λ c. run-refused (c .before .before .before .before .before .before .before .loop .inv) (c .before .before .before .before .before .before .loop-test .taken) (nested-full (c .before .before .before .before .before .before .before .before .before .place .ensures) (c .before .before .before .before .before .before .before .before .kind-at .ensures) (c .before .before .before .before .before .opens .ensures) _ _ _ _ _ _ _ (c .before .before .before .before .if1 .left) (c .before .before .before .if2 .left) _ (c .before .is-full .ensures) (c .if3 .taken)) refl) -- returns-3
-    (λ c κs. search (needs, as-nested-laws)) -- new-requires
-    (λ c. row-next _ _ _ (c .before .before .before .is-full .ensures) (c .before .before .if3 .left) (run-long (c .before .before .before .before .before .before .before .before .before .loop .inv) (c .before .before .before .before .before .before .before .before .before .before .before .before .before .before .before .before .good .1 .1 .1 .1 .0 .0))) -- add-body
-    (λ c. search (needs, as-nested-laws)) -- sub-body
-    (λ c κs. search (needs, as-nested-laws)) -- body-requires
-    (λ c. search (needs, as-nested-laws)) -- enum-known-x
-    (λ c. search (needs, as-nested-laws)) -- same-length-4
-    (λ c. run-short (c .before .before .before .before .before .before .before .before .before .before .before .before .before .before .before .loop .inv) (c .before .before .before .before .before .before .before .before .before .before .before .before .before .before .loop-test .taken) (nested-short (c .before .before .before .before .before .before .before .before .before .before .before .before .before .before .before .before .before .place .ensures) (c .before .before .before .before .before .before .before .before .before .before .before .before .before .before .before .before .kind-at .ensures) (c .before .before .before .before .before .before .before .before .before .before .before .before .before .opens .ensures) _ _ _ _ _ _ _ (c .before .before .before .before .before .before .before .before .before .before .before .before .if1 .left) (c .before .before .before .before .before .before .before .before .before .before .before .if2 .left) _ (c .before .before .before .before .before .before .before .before .before .is-full .ensures) (c .before .before .before .before .before .before .before .before .if3 .left) (c .before .before .before .before .before .before .new .ensures) (c .before .before .before .before .before .body .ensures) _ (search needs)) refl) -- returns-4
-    (λ c. search (needs, as-nested-laws)) -- enum-known-why
-    (λ c. search (needs, as-nested-laws)) -- same-length-5
-    (λ c. run-refused (c .before .before .before .before .before .before .before .before .before .before .before .before .before .before .before .loop .inv) (c .before .before .before .before .before .before .before .before .before .before .before .before .before .before .loop-test .taken) (nested-refused (c .before .before .before .before .before .before .before .before .before .before .before .before .before .before .before .before .before .place .ensures) (c .before .before .before .before .before .before .before .before .before .before .before .before .before .before .before .before .kind-at .ensures) (c .before .before .before .before .before .before .before .before .before .before .before .before .before .opens .ensures) _ _ _ _ _ _ _ (c .before .before .before .before .before .before .before .before .before .before .before .before .if1 .left) (c .before .before .before .before .before .before .before .before .before .before .before .if2 .left) _ (c .before .before .before .before .before .before .before .before .before .is-full .ensures) (c .before .before .before .before .before .before .before .before .if3 .left) (c .before .before .before .before .before .before .new .ensures) (c .before .before .before .before .before .body .ensures) _ (search needs)) refl) -- returns-5
-    (λ c. search (needs, as-nested-laws)) -- enum-known-e
-    (λ c. count-from (c .before .before .before .before .before .body .ensures) (c .before .e .given .1)) -- sub-rows
-    (λ c. count-past _ (c .before .before .before .before .before .body .ensures) (c .before .e .given .1)) -- sub-beneath
-    (λ c κs. search (needs, as-nested-laws)) -- stored-of-requires
-    (λ c. search (needs, as-nested-laws)) -- cast-t41
-    (λ c κs. place-kept _ _ _ _ _ _ (c .before .before .before .before .before .before .before .before .before .before .before .is-full .ensures) (c .before .before .before .before .before .before .before .before .before .before .if3 .left) (c .before .before .before .before .before .before .before .body .ensures)) -- put-row-requires
-    (λ c. next-fits _ _ (c .before .before .before .before .before .before .before .before .before .before .before .before .before .before .before .before .before .before .before .loop-test .taken) (c .before .before .before .before .before .before .before .before .before .before .before .before .before .before .before .before .before .before .before .before .before .before .before .before .before .before .before .fits .count)) -- add-i
-    (λ c. nearer _ _ (c .before .before .before .before .before .before .before .before .before .before .before .before .before .before .before .before .before .before .before .loop-test .taken)) -- loop-less
-    (λ c. run-turn (c .before .before .before .before .before .before .before .before .before .before .before .before .before .before .before .before .before .before .before .before .loop .inv) (c .before .before .before .before .before .before .before .before .before .before .before .before .before .before .before .before .before .before .before .loop-test .taken) (nested-read (c .before .before .before .before .before .before .before .before .before .before .before .before .before .before .before .before .before .before .before .before .before .before .place .ensures) (c .before .before .before .before .before .before .before .before .before .before .before .before .before .before .before .before .before .before .before .before .before .kind-at .ensures) (c .before .before .before .before .before .before .before .before .before .before .before .before .before .before .before .before .before .before .opens .ensures) _ _ _ _ _ _ _ (c .before .before .before .before .before .before .before .before .before .before .before .before .before .before .before .before .before .if1 .left) (c .before .before .before .before .before .before .before .before .before .before .before .before .before .before .before .before .if2 .left) _ (c .before .before .before .before .before .before .before .before .before .before .before .before .before .before .is-full .ensures) (c .before .before .before .before .before .before .before .before .before .before .before .before .before .if3 .left) (c .before .before .before .before .before .before .before .before .before .before .before .new .ensures) (c .before .before .before .before .before .before .before .before .before .before .body .ensures) _ _ _ (search needs) (c .before .before .before .before .stored-of .ensures) (c .before .before .put-row .ensures)) refl) -- loop-again
-    (λ c κs. search (needs, as-nested-laws)) -- new-requires-2
-    (λ c. search (needs, as-nested-laws)) -- same-length-6
-    (λ c. run-end (c .before .before .loop .inv) (c .before .loop-test .left) (c .new2 .ensures)) -- returns-6
+    (λ c κs. search (needs, as-nested-laws))  -- place-requires
+    (λ c κs. search (needs, as-nested-laws))  -- kind-at-requires
+    (λ c. search (needs, as-nested-laws))  -- loop-holds
+    (λ c κs. search (needs, as-nested-laws))  -- opens-requires
+    (λ c. search (needs, as-nested-laws))  -- same-length
+    (λ c. run-refused (c .before .before .before .loop .inv) (c .before .before .loop-test .taken) (nested-unfit (c .before .before .before .before .before .place .ensures) (c .before .before .before .before .kind-at .ensures) (c .before .opens .ensures) _ _ _ _ _ _ _ (c .if1 .taken)) refl)  -- returns
+    (λ c. search (needs, as-nested-laws))  -- same-length-2
+    (λ c. run-refused (c .before .before .before .before .loop .inv) (c .before .before .before .loop-test .taken) (nested-deep (c .before .before .before .before .before .before .place .ensures) (c .before .before .before .before .before .kind-at .ensures) (c .before .before .opens .ensures) _ _ _ _ _ _ _ (c .before .if1 .left) (c .if2 .taken)) refl)  -- returns-2
+    (λ c κs. search (needs, as-nested-laws))  -- is-full-requires
+    (λ c. search (needs, as-nested-laws))  -- same-length-3
+    (λ c. run-refused (c .before .before .before .before .before .before .before .loop .inv) (c .before .before .before .before .before .before .loop-test .taken) (nested-full (c .before .before .before .before .before .before .before .before .before .place .ensures) (c .before .before .before .before .before .before .before .before .kind-at .ensures) (c .before .before .before .before .before .opens .ensures) _ _ _ _ _ _ _ (c .before .before .before .before .if1 .left) (c .before .before .before .if2 .left) _ (c .before .is-full .ensures) (c .if3 .taken)) refl)  -- returns-3
+    (λ c κs. search (needs, as-nested-laws))  -- new-requires
+    (λ c. row-next _ _ _ (c .before .before .before .is-full .ensures) (c .before .before .if3 .left) (run-long (c .before .before .before .before .before .before .before .before .before .loop .inv) (c .before .before .before .before .before .before .before .before .before .before .before .before .before .before .before .before .good .1 .1 .1 .1 .0 .0)))  -- add-body
+    (λ c. search (needs, as-nested-laws))  -- sub-body
+    (λ c κs. search (needs, as-nested-laws))  -- body-requires
+    (λ c. search (needs, as-nested-laws))  -- enum-known-x
+    (λ c. search (needs, as-nested-laws))  -- same-length-4
+    (λ c. run-short (c .before .before .before .before .before .before .before .before .before .before .before .before .before .before .before .loop .inv) (c .before .before .before .before .before .before .before .before .before .before .before .before .before .before .loop-test .taken) (nested-short (c .before .before .before .before .before .before .before .before .before .before .before .before .before .before .before .before .before .place .ensures) (c .before .before .before .before .before .before .before .before .before .before .before .before .before .before .before .before .kind-at .ensures) (c .before .before .before .before .before .before .before .before .before .before .before .before .before .opens .ensures) _ _ _ _ _ _ _ (c .before .before .before .before .before .before .before .before .before .before .before .before .if1 .left) (c .before .before .before .before .before .before .before .before .before .before .before .if2 .left) _ (c .before .before .before .before .before .before .before .before .before .is-full .ensures) (c .before .before .before .before .before .before .before .before .if3 .left) (c .before .before .before .before .before .before .new .ensures) (c .before .before .before .before .before .body .ensures) _ (search needs)) refl)  -- returns-4
+    (λ c. search (needs, as-nested-laws))  -- enum-known-why
+    (λ c. search (needs, as-nested-laws))  -- same-length-5
+    (λ c. run-refused (c .before .before .before .before .before .before .before .before .before .before .before .before .before .before .before .loop .inv) (c .before .before .before .before .before .before .before .before .before .before .before .before .before .before .loop-test .taken) (nested-refused (c .before .before .before .before .before .before .before .before .before .before .before .before .before .before .before .before .before .place .ensures) (c .before .before .before .before .before .before .before .before .before .before .before .before .before .before .before .before .kind-at .ensures) (c .before .before .before .before .before .before .before .before .before .before .before .before .before .opens .ensures) _ _ _ _ _ _ _ (c .before .before .before .before .before .before .before .before .before .before .before .before .if1 .left) (c .before .before .before .before .before .before .before .before .before .before .before .if2 .left) _ (c .before .before .before .before .before .before .before .before .before .is-full .ensures) (c .before .before .before .before .before .before .before .before .if3 .left) (c .before .before .before .before .before .before .new .ensures) (c .before .before .before .before .before .body .ensures) _ (search needs)) refl)  -- returns-5
+    (λ c. search (needs, as-nested-laws))  -- enum-known-e
+    (λ c. count-from (c .before .before .before .before .before .body .ensures) (c .before .e .given .1))  -- sub-rows
+    (λ c. count-past _ (c .before .before .before .before .before .body .ensures) (c .before .e .given .1))  -- sub-beneath
+    (λ c κs. search (needs, as-nested-laws))  -- stored-of-requires
+    (λ c. search (needs, as-nested-laws))  -- cast-t41
+    (λ c κs. place-kept _ _ _ _ _ _ (c .before .before .before .before .before .before .before .before .before .before .before .is-full .ensures) (c .before .before .before .before .before .before .before .before .before .before .if3 .left) (c .before .before .before .before .before .before .before .body .ensures))  -- put-row-requires
+    (λ c. next-fits _ _ (c .before .before .before .before .before .before .before .before .before .before .before .before .before .before .before .before .before .before .before .loop-test .taken) (c .before .before .before .before .before .before .before .before .before .before .before .before .before .before .before .before .before .before .before .before .before .before .before .before .before .before .before .fits .count))  -- add-i
+    (λ c. nearer _ _ (c .before .before .before .before .before .before .before .before .before .before .before .before .before .before .before .before .before .before .before .loop-test .taken))  -- loop-less
+    (λ c. run-turn (c .before .before .before .before .before .before .before .before .before .before .before .before .before .before .before .before .before .before .before .before .loop .inv) (c .before .before .before .before .before .before .before .before .before .before .before .before .before .before .before .before .before .before .before .loop-test .taken) (nested-read (c .before .before .before .before .before .before .before .before .before .before .before .before .before .before .before .before .before .before .before .before .before .before .place .ensures) (c .before .before .before .before .before .before .before .before .before .before .before .before .before .before .before .before .before .before .before .before .before .kind-at .ensures) (c .before .before .before .before .before .before .before .before .before .before .before .before .before .before .before .before .before .before .opens .ensures) _ _ _ _ _ _ _ (c .before .before .before .before .before .before .before .before .before .before .before .before .before .before .before .before .before .if1 .left) (c .before .before .before .before .before .before .before .before .before .before .before .before .before .before .before .before .if2 .left) _ (c .before .before .before .before .before .before .before .before .before .before .before .before .before .before .is-full .ensures) (c .before .before .before .before .before .before .before .before .before .before .before .before .before .if3 .left) (c .before .before .before .before .before .before .before .before .before .before .before .new .ensures) (c .before .before .before .before .before .before .before .before .before .before .body .ensures) _ _ _ (search needs) (c .before .before .before .before .stored-of .ensures) (c .before .before .put-row .ensures)) refl)  -- loop-again
+    (λ c κs. search (needs, as-nested-laws))  -- new-requires-2
+    (λ c. search (needs, as-nested-laws))  -- same-length-6
+    (λ c. run-end (c .before .before .loop .inv) (c .before .loop-test .left) (c .new2 .ensures))  -- returns-6

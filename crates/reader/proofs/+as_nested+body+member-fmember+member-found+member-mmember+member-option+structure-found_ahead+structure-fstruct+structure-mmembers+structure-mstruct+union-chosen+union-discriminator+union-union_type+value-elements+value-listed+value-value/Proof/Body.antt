@@ -20,22 +20,22 @@ E t = (kind-at-reads.Asked, kind-at-reads.Learnt, base-at-reads.Asked, base-at-r
 pub closed : (t : ℕ) {M : Type 1} → lts.Closed (E t) (body-at t) body.Post M
 closed t =
     lts.spec (E t) (body-at t) body.Post
-    (λ c κs. search (needs, body-laws)) -- kind-at-requires
-    (λ c κs. search (needs, body-laws)) -- base-at-requires
-    (λ c κs. search (needs, body-laws)) -- enum-type-requires
-    (λ c. search (needs, body-laws)) -- same-length
-    (λ c. search (needs, body-laws)) -- returns
-    (λ c κs. search (needs, body-laws)) -- is-mutable-requires
-    (λ c κs. search (needs, body-laws)) -- beginning-requires
-    (λ c. search (needs, body-laws)) -- enum-known-x
-    (λ c. search (needs, body-laws)) -- enum-known-d
-    (λ c κs. search (needs, body-laws)) -- mstruct-requires
-    (λ c. search (needs, body-laws)) -- same-length-2
-    (λ c. search (needs, body-laws)) -- returns-2
-    (λ c κs. search (needs, body-laws)) -- fstruct-requires
-    (λ c. search (needs, body-laws)) -- same-length-3
-    (λ c. search (needs, body-laws)) -- returns-3
-    (λ c κs. search (needs, body-laws)) -- union-type-requires
-    (λ c. search (needs, body-laws)) -- returns-4
-    (λ c. search (needs, body-laws)) -- same-length-4
-    (λ c. search (needs, body-laws)) -- returns-5
+    (λ c κs. search (needs, body-laws))  -- kind-at-requires
+    (λ c κs. search (needs, body-laws))  -- base-at-requires
+    (λ c κs. search (needs, body-laws))  -- enum-type-requires
+    (λ c. search (needs, body-laws))  -- same-length
+    (λ c. search (needs, body-laws))  -- returns
+    (λ c κs. search (needs, body-laws))  -- is-mutable-requires
+    (λ c κs. search (needs, body-laws))  -- beginning-requires
+    (λ c. search (needs, body-laws))  -- enum-known-x
+    (λ c. search (needs, body-laws))  -- enum-known-d
+    (λ c κs. search (needs, body-laws))  -- mstruct-requires
+    (λ c. search (needs, body-laws))  -- same-length-2
+    (λ c. search (needs, body-laws))  -- returns-2
+    (λ c κs. search (needs, body-laws))  -- fstruct-requires
+    (λ c. search (needs, body-laws))  -- same-length-3
+    (λ c. search (needs, body-laws))  -- returns-3
+    (λ c κs. search (needs, body-laws))  -- union-type-requires
+    (λ c. search (needs, body-laws))  -- returns-4
+    (λ c. search (needs, body-laws))  -- same-length-4
+    (λ c. search (needs, body-laws))  -- returns-5

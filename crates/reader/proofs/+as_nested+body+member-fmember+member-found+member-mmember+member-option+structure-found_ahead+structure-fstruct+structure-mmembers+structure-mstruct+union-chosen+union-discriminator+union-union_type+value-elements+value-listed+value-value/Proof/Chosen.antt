@@ -19,25 +19,25 @@ E t = (select-reads.Asked, select-reads.Learnt, member·mmember-below t, member�
 pub closed : (t : ℕ) {M : Type 1} → lts.Closed (E t) (union·chosen-at t) union·chosen.Post M
 closed t =
     lts.spec (E t) (union·chosen-at t) union·chosen.Post
-    (λ c. search (needs, chosen-laws)) -- enum-told
-    (λ c. search (needs, chosen-laws)) -- enum-told-2
-    (λ c. search (needs, chosen-laws)) -- enum-known-v
-    (λ c κs. search (needs, chosen-laws)) -- select-requires
-    (λ c. search (needs, chosen-laws)) -- enum-told-3
-    (λ c. search (needs, chosen-laws)) -- enum-known-q
-    (λ c κs. search (needs, chosen-laws)) -- mmember-requires
-    (λ c. search (needs, chosen-laws)) -- same-length
-    (λ c. search (needs, chosen-laws)) -- returns
-    (λ c κs. search (needs, chosen-laws)) -- is-optional-requires
-    (λ c κs. search (needs, chosen-laws)) -- option-requires
-    (λ c. search (needs, chosen-laws)) -- same-length-2
-    (λ c. search (needs, chosen-laws)) -- returns-2
-    (λ c κs. search (needs, chosen-laws)) -- type-index-requires
-    (λ c κs. search (needs, chosen-laws)) -- id-requires
-    (λ c. search (needs, chosen-laws)) -- cast-value
-    (λ c κs. search (needs, chosen-laws)) -- value-requires
-    (λ c. search (needs, chosen-laws)) -- returns-3
-    (λ c. search (needs, chosen-laws)) -- returns-4
-    (λ c. search (needs, chosen-laws)) -- returns-5
-    (λ c. search (needs, chosen-laws)) -- same-length-3
-    (λ c. search (needs, chosen-laws)) -- returns-6
+    (λ c. search (needs, chosen-laws))  -- enum-told
+    (λ c. search (needs, chosen-laws))  -- enum-told-2
+    (λ c. search (needs, chosen-laws))  -- enum-known-v
+    (λ c κs. search (needs, chosen-laws))  -- select-requires
+    (λ c. search (needs, chosen-laws))  -- enum-told-3
+    (λ c. search (needs, chosen-laws))  -- enum-known-q
+    (λ c κs. search (needs, chosen-laws))  -- mmember-requires
+    (λ c. search (needs, chosen-laws))  -- same-length
+    (λ c. search (needs, chosen-laws))  -- returns
+    (λ c κs. search (needs, chosen-laws))  -- is-optional-requires
+    (λ c κs. search (needs, chosen-laws))  -- option-requires
+    (λ c. search (needs, chosen-laws))  -- same-length-2
+    (λ c. search (needs, chosen-laws))  -- returns-2
+    (λ c κs. search (needs, chosen-laws))  -- type-index-requires
+    (λ c κs. search (needs, chosen-laws))  -- id-requires
+    (λ c. search (needs, chosen-laws))  -- cast-value
+    (λ c κs. search (needs, chosen-laws))  -- value-requires
+    (λ c. search (needs, chosen-laws))  -- returns-3
+    (λ c. search (needs, chosen-laws))  -- returns-4
+    (λ c. search (needs, chosen-laws))  -- returns-5
+    (λ c. search (needs, chosen-laws))  -- same-length-3
+    (λ c. search (needs, chosen-laws))  -- returns-6

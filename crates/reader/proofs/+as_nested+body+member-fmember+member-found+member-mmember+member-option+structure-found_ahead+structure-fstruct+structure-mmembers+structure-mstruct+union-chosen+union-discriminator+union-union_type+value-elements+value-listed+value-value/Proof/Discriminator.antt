@@ -16,12 +16,12 @@ E t = (member·mmember-below t, member·mmember.Post, type-index-reads.Asked, ty
 pub closed : (t : ℕ) {M : Type 1} → lts.Closed (E t) (union·discriminator-at t) union·discriminator.Post M
 closed t =
     lts.spec (E t) (union·discriminator-at t) union·discriminator.Post
-    (λ c κs. search (needs, discriminator-laws)) -- mmember-requires
-    (λ c. search (needs, discriminator-laws)) -- same-length
-    (λ c. search (needs, discriminator-laws)) -- returns
-    (λ c κs. search (needs, discriminator-laws)) -- type-index-requires
-    (λ c κs. search (needs, discriminator-laws)) -- id-requires
-    (λ c. search (needs, discriminator-laws)) -- cast-value
-    (λ c κs. search (needs, discriminator-laws)) -- value-requires
-    (λ c. search (needs, discriminator-laws)) -- same-length-2
-    (λ c. search (needs, discriminator-laws)) -- returns-2
+    (λ c κs. search (needs, discriminator-laws))  -- mmember-requires
+    (λ c. search (needs, discriminator-laws))  -- same-length
+    (λ c. search (needs, discriminator-laws))  -- returns
+    (λ c κs. search (needs, discriminator-laws))  -- type-index-requires
+    (λ c κs. search (needs, discriminator-laws))  -- id-requires
+    (λ c. search (needs, discriminator-laws))  -- cast-value
+    (λ c κs. search (needs, discriminator-laws))  -- value-requires
+    (λ c. search (needs, discriminator-laws))  -- same-length-2
+    (λ c. search (needs, discriminator-laws))  -- returns-2

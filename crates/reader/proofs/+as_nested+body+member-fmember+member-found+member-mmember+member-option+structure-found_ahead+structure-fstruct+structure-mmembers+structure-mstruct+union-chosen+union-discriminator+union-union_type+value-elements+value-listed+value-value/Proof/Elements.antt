@@ -25,28 +25,28 @@ E t = (place-reads.Asked, place-reads.Learnt, kind-at-reads.Asked, kind-at-reads
 pub closed : (t : ℕ) {M : Type 1} → lts.Closed (E t) (value·elements-at t) value·elements.Post M
 closed t =
     lts.spec (E t) (value·elements-at t) value·elements.Post
-    (λ c κs. search (needs, elements-laws)) -- place-requires
-    (λ c κs. search (needs, elements-laws)) -- kind-at-requires
-    (λ c κs. search (needs, elements-laws)) -- unsupported-element-requires
-    (λ c. search (needs, elements-laws)) -- returns
-    (λ c κs. search (needs, elements-laws)) -- opens-requires
-    (λ c κs. search (needs, elements-laws)) -- is-full-requires
-    (λ c. search (needs, elements-laws)) -- same-length
-    (λ c. search (needs, elements-laws)) -- returns-2
-    (λ c κs. search (needs, elements-laws)) -- stored-of-requires
-    (λ c. search (needs, elements-laws)) -- cast-t23
-    (λ c κs. search (needs, elements-laws)) -- stored-of-requires-2
-    (λ c. search (needs, elements-laws)) -- cast-t25
-    (λ c κs. search (needs, elements-laws)) -- put-row-requires
-    (λ c. row-next _ _ _ (c .before .before .before .before .before .before .before .before .is-full .ensures) (c .before .before .before .before .before .before .before .if3 .left) (c .before .before .before .before .before .before .before .before .before .before .before .before .before .before .before .before .before .before .before .before .good .1 .1 .1 .1 .0 .0)) -- add-as-nested
-    (λ c κs. search (needs, elements-laws)) -- as-nested-requires
-    (λ c. search (needs, elements-laws)) -- same-length-2
-    (λ c. search (needs, elements-laws)) -- returns-3
-    (λ c κs. search (needs, elements-laws)) -- is-primitive-requires
-    (λ c κs. search (needs, elements-laws)) -- primitives-requires
-    (λ c. search (needs, elements-laws)) -- same-length-3
-    (λ c. search (needs, elements-laws)) -- returns-4
-    (λ c κs. search (needs, elements-laws)) -- read-as-requires
-    (λ c κs. search (needs, elements-laws)) -- bitmasks-or-texts-requires
-    (λ c. search (needs, elements-laws)) -- same-length-4
-    (λ c. search (needs, elements-laws)) -- returns-5
+    (λ c κs. search (needs, elements-laws))  -- place-requires
+    (λ c κs. search (needs, elements-laws))  -- kind-at-requires
+    (λ c κs. search (needs, elements-laws))  -- unsupported-element-requires
+    (λ c. search (needs, elements-laws))  -- returns
+    (λ c κs. search (needs, elements-laws))  -- opens-requires
+    (λ c κs. search (needs, elements-laws))  -- is-full-requires
+    (λ c. search (needs, elements-laws))  -- same-length
+    (λ c. search (needs, elements-laws))  -- returns-2
+    (λ c κs. search (needs, elements-laws))  -- stored-of-requires
+    (λ c. search (needs, elements-laws))  -- cast-t23
+    (λ c κs. search (needs, elements-laws))  -- stored-of-requires-2
+    (λ c. search (needs, elements-laws))  -- cast-t25
+    (λ c κs. search (needs, elements-laws))  -- put-row-requires
+    (λ c. row-next _ _ _ (c .before .before .before .before .before .before .before .before .is-full .ensures) (c .before .before .before .before .before .before .before .if3 .left) (c .before .before .before .before .before .before .before .before .before .before .before .before .before .before .before .before .before .before .before .before .good .1 .1 .1 .1 .0 .0))  -- add-as-nested
+    (λ c κs. search (needs, elements-laws))  -- as-nested-requires
+    (λ c. search (needs, elements-laws))  -- same-length-2
+    (λ c. search (needs, elements-laws))  -- returns-3
+    (λ c κs. search (needs, elements-laws))  -- is-primitive-requires
+    (λ c κs. search (needs, elements-laws))  -- primitives-requires
+    (λ c. search (needs, elements-laws))  -- same-length-3
+    (λ c. search (needs, elements-laws))  -- returns-4
+    (λ c κs. search (needs, elements-laws))  -- read-as-requires
+    (λ c κs. search (needs, elements-laws))  -- bitmasks-or-texts-requires
+    (λ c. search (needs, elements-laws))  -- same-length-4
+    (λ c. search (needs, elements-laws))  -- returns-5

@@ -19,17 +19,17 @@ E t = (head-at-reads.Asked, head-at-reads.Learnt, member·option-below t, member
 pub closed : (t : ℕ) {M : Type 1} → lts.Closed (E t) (member·fmember-at t) member·fmember.Post M
 closed t =
     lts.spec (E t) (member·fmember-at t) member·fmember.Post
-    (λ c κs. search (needs, fmember-laws)) -- head-at-requires
-    (λ c κs. search (needs, fmember-laws)) -- option-requires
-    (λ c. search (needs, fmember-laws)) -- same-length
-    (λ c. search (needs, fmember-laws)) -- returns
-    (λ c. search (needs, fmember-laws)) -- cast-i
-    (λ c κs. search (needs, fmember-laws)) -- place-requires
-    (λ c κs. search (needs, fmember-laws)) -- kind-at-requires
-    (λ c κs. search (needs, fmember-laws)) -- opens-requires
-    (λ c κs. search (needs, fmember-laws)) -- as-nested-requires
-    (λ c. search (needs, fmember-laws)) -- same-length-2
-    (λ c. search (needs, fmember-laws)) -- returns-2
-    (λ c κs. search (needs, fmember-laws)) -- value-requires
-    (λ c. search (needs, fmember-laws)) -- same-length-3
-    (λ c. search (needs, fmember-laws)) -- returns-3
+    (λ c κs. search (needs, fmember-laws))  -- head-at-requires
+    (λ c κs. search (needs, fmember-laws))  -- option-requires
+    (λ c. search (needs, fmember-laws))  -- same-length
+    (λ c. search (needs, fmember-laws))  -- returns
+    (λ c. search (needs, fmember-laws))  -- cast-i
+    (λ c κs. search (needs, fmember-laws))  -- place-requires
+    (λ c κs. search (needs, fmember-laws))  -- kind-at-requires
+    (λ c κs. search (needs, fmember-laws))  -- opens-requires
+    (λ c κs. search (needs, fmember-laws))  -- as-nested-requires
+    (λ c. search (needs, fmember-laws))  -- same-length-2
+    (λ c. search (needs, fmember-laws))  -- returns-2
+    (λ c κs. search (needs, fmember-laws))  -- value-requires
+    (λ c. search (needs, fmember-laws))  -- same-length-3
+    (λ c. search (needs, fmember-laws))  -- returns-3

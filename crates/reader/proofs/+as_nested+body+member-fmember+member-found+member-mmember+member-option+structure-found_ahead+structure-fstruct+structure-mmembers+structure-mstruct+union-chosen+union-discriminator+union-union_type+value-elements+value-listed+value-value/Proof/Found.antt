@@ -20,18 +20,18 @@ E t = (type-index-reads.Asked, type-index-reads.Learnt, place-reads.Asked, place
 pub closed : (t : ℕ) {M : Type 1} → lts.Closed (E t) (member·found-at t) member·found.Post M
 closed t =
     lts.spec (E t) (member·found-at t) member·found.Post
-    (λ c κs. search (needs, found-laws)) -- type-index-requires
-    (λ c κs. search (needs, found-laws)) -- place-requires
-    (λ c κs. search (needs, found-laws)) -- by-length-requires
-    (λ c κs. search (needs, found-laws)) -- element-count-requires
-    (λ c κs. search (needs, found-laws)) -- element-requires
-    (λ c κs. search (needs, found-laws)) -- id-requires
-    (λ c. search (needs, found-laws)) -- cast-elements
-    (λ c κs. search (needs, found-laws)) -- elements-requires
-    (λ c. search (needs, found-laws)) -- same-length
-    (λ c. search (needs, found-laws)) -- returns
-    (λ c κs. search (needs, found-laws)) -- id-requires-2
-    (λ c. search (needs, found-laws)) -- cast-i
-    (λ c κs. search (needs, found-laws)) -- value-requires
-    (λ c. search (needs, found-laws)) -- same-length-2
-    (λ c. search (needs, found-laws)) -- returns-2
+    (λ c κs. search (needs, found-laws))  -- type-index-requires
+    (λ c κs. search (needs, found-laws))  -- place-requires
+    (λ c κs. search (needs, found-laws))  -- by-length-requires
+    (λ c κs. search (needs, found-laws))  -- element-count-requires
+    (λ c κs. search (needs, found-laws))  -- element-requires
+    (λ c κs. search (needs, found-laws))  -- id-requires
+    (λ c. search (needs, found-laws))  -- cast-elements
+    (λ c κs. search (needs, found-laws))  -- elements-requires
+    (λ c. search (needs, found-laws))  -- same-length
+    (λ c. search (needs, found-laws))  -- returns
+    (λ c κs. search (needs, found-laws))  -- id-requires-2
+    (λ c. search (needs, found-laws))  -- cast-i
+    (λ c κs. search (needs, found-laws))  -- value-requires
+    (λ c. search (needs, found-laws))  -- same-length-2
+    (λ c. search (needs, found-laws))  -- returns-2

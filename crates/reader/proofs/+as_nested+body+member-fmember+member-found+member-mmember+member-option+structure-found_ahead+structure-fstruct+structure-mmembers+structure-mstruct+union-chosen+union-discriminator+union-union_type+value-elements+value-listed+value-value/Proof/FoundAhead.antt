@@ -18,13 +18,13 @@ E t = (type-index-reads.Asked, type-index-reads.Learnt, place-reads.Asked, place
 pub closed : (t : ℕ) {M : Type 1} → lts.Closed (E t) (structure·found-ahead-at t) structure·found-ahead.Post M
 closed t =
     lts.spec (E t) (structure·found-ahead-at t) structure·found-ahead.Post
-    (λ c κs. search (needs, found-ahead-laws)) -- type-index-requires
-    (λ c κs. search (needs, found-ahead-laws)) -- place-requires
-    (λ c κs. search (needs, found-ahead-laws)) -- kind-at-requires
-    (λ c κs. search (needs, found-ahead-laws)) -- opens-requires
-    (λ c κs. search (needs, found-ahead-laws)) -- as-nested-requires
-    (λ c. search (needs, found-ahead-laws)) -- same-length
-    (λ c. search (needs, found-ahead-laws)) -- returns
-    (λ c κs. search (needs, found-ahead-laws)) -- found-requires
-    (λ c. search (needs, found-ahead-laws)) -- same-length-2
-    (λ c. search (needs, found-ahead-laws)) -- returns-2
+    (λ c κs. search (needs, found-ahead-laws))  -- type-index-requires
+    (λ c κs. search (needs, found-ahead-laws))  -- place-requires
+    (λ c κs. search (needs, found-ahead-laws))  -- kind-at-requires
+    (λ c κs. search (needs, found-ahead-laws))  -- opens-requires
+    (λ c κs. search (needs, found-ahead-laws))  -- as-nested-requires
+    (λ c. search (needs, found-ahead-laws))  -- same-length
+    (λ c. search (needs, found-ahead-laws))  -- returns
+    (λ c κs. search (needs, found-ahead-laws))  -- found-requires
+    (λ c. search (needs, found-ahead-laws))  -- same-length-2
+    (λ c. search (needs, found-ahead-laws))  -- returns-2

@@ -30,29 +30,29 @@ abbrev μ-loop : lts.MeasureT-loop
 pub closed : (t : ℕ) {M : Type 1} → lts.Closed (E t) (structure·fstruct-at t) structure·fstruct.Post M
 closed t =
     lts.spec (E t) (structure·fstruct-at t) structure·fstruct.Post Inv-loop μ-loop
-    (λ c κs. search (needs, fstruct-laws)) -- members-requires
-    (λ c. search (needs, fstruct-laws)) -- loop-holds
-    (λ c κs. search (needs, fstruct-laws)) -- new-requires
-    (λ c κs. search (needs, fstruct-laws)) -- take-requires
-    (λ c. fmembers-next (c .before .before .before .before .before .before .before .before .loop .inv) (c .before .before .before .before .new .ensures) _ _ (c .before .before .before .take .ensures) (c .if2 .taken) (c .before .before .before .before .before .before .before .before .before .before .before .before .before .before .good .1 .1 .1 .1 .0 .0)) -- add-m
-    (λ c κs. search (needs, fstruct-laws)) -- after-requires
-    (λ c. search (needs, fstruct-laws)) -- loop-less
-    (λ c. fmembers-quick (c .before .before .before .before .before .before .before .before .before .loop .inv) (c .before .before .before .before .before .new .ensures) _ _ (c .before .before .before .before .take .ensures) (c .before .before .before .before .before .before .before .if1 .taken) (c .before .if2 .taken) (c .after .ensures)) -- loop-again
-    (λ c κs. search (needs, fstruct-laws)) -- new-requires-2
-    (λ c κs. search (needs, fstruct-laws)) -- fmember-requires
-    (λ c. search (needs, fstruct-laws)) -- enum-known-e
-    (λ c. search (needs, fstruct-laws)) -- enum-known-x
-    (λ c κs. search (needs, fstruct-laws)) -- absorbs-requires
-    (λ c. same-long (fmembers-still (c .before .before .before .before .before .before .before .before .before .before .before .before .before .before .before .before .before .before .before .loop .inv) (c .before .before .before .before .before .before .before .before .before .before .before .before .before .before .before .new .ensures) _ _ (c .before .before .before .before .before .before .before .before .before .before .before .before .before .before .take .ensures) (c .before .before .before .before .before .before .before .before .before .before .before .if2 .left) .so) (c .before .before .before .before .before .before .before .before .fmember .ensures)) -- same-length
-    (λ c. fmembers-ended (fmembers-still (c .before .before .before .before .before .before .before .before .before .before .before .before .before .before .before .before .before .before .before .loop .inv) (c .before .before .before .before .before .before .before .before .before .before .before .before .before .before .before .new .ensures) _ _ (c .before .before .before .before .before .before .before .before .before .before .before .before .before .before .take .ensures) (c .before .before .before .before .before .before .before .before .before .before .before .if2 .left)) (c .before .before .before .before .before .before .before .before .before .before .before .before .before .before .before .before .before .if1 .taken) (c .before .before .before .before .before .before .before .before .before .new2 .ensures) (c .before .before .before .before .before .before .before .before .fmember .ensures) (c .before .before .before .before .x .given .1) (c .before .before .absorbs .ensures) (c .before .if3 .taken)) -- returns
-    (λ c. same-long (fmembers-still (c .before .before .before .before .before .before .before .before .before .before .before .before .before .before .before .before .before .before .loop .inv) (c .before .before .before .before .before .before .before .before .before .before .before .before .before .before .new .ensures) _ _ (c .before .before .before .before .before .before .before .before .before .before .before .before .before .take .ensures) (c .before .before .before .before .before .before .before .before .before .before .if2 .left) .so) (c .before .before .before .before .before .before .before .fmember .ensures)) -- same-length-2
-    (λ c. fmembers-short (fmembers-still (c .before .before .before .before .before .before .before .before .before .before .before .before .before .before .before .before .before .before .loop .inv) (c .before .before .before .before .before .before .before .before .before .before .before .before .before .before .new .ensures) _ _ (c .before .before .before .before .before .before .before .before .before .before .before .before .before .take .ensures) (c .before .before .before .before .before .before .before .before .before .before .if2 .left)) (c .before .before .before .before .before .before .before .before .before .before .before .before .before .before .before .before .if1 .taken) (c .before .before .before .before .before .before .before .before .new2 .ensures) (c .before .before .before .before .before .before .before .fmember .ensures) (c .before .before .before .x .given .1) (c .before .absorbs .ensures) (c .if3 .left)) -- returns-2
-    (λ c. search (needs, fstruct-laws)) -- enum-known-why
-    (λ c. same-long (fmembers-still (c .before .before .before .before .before .before .before .before .before .before .before .before .before .before .before .before .loop .inv) (c .before .before .before .before .before .before .before .before .before .before .before .before .new .ensures) _ _ (c .before .before .before .before .before .before .before .before .before .before .before .take .ensures) (c .before .before .before .before .before .before .before .before .if2 .left) .so) (c .before .before .before .before .before .fmember .ensures)) -- same-length-3
-    (λ c. fmembers-refused (fmembers-still (c .before .before .before .before .before .before .before .before .before .before .before .before .before .before .before .before .loop .inv) (c .before .before .before .before .before .before .before .before .before .before .before .before .new .ensures) _ _ (c .before .before .before .before .before .before .before .before .before .before .before .take .ensures) (c .before .before .before .before .before .before .before .before .if2 .left)) (c .before .before .before .before .before .before .before .before .before .before .before .before .before .before .if1 .taken) (c .before .before .before .before .before .before .new2 .ensures) (c .before .before .before .before .before .fmember .ensures) (search needs)) -- returns-3
-    (λ c κs. search (needs, fstruct-laws)) -- after-requires-2
-    (λ c. search (needs, fstruct-laws)) -- loop-less-2
-    (λ c. fmembers-turn (fmembers-still (c .before .before .before .before .before .before .before .before .before .before .before .before .before .before .before .before .before .loop .inv) (c .before .before .before .before .before .before .before .before .before .before .before .before .before .new .ensures) _ _ (c .before .before .before .before .before .before .before .before .before .before .before .before .take .ensures) (c .before .before .before .before .before .before .before .before .before .if2 .left)) (c .before .before .before .before .before .before .before .before .before .before .before .before .before .before .before .if1 .taken) (c .before .before .before .before .before .before .before .new2 .ensures) (c .before .before .before .before .before .before .fmember .ensures) (search needs) (c .after2 .ensures)) -- loop-again-2
-    (λ c κs. search (needs, fstruct-laws)) -- new-requires-3
-    (λ c. search (needs, fstruct-laws)) -- same-length-4
-    (λ c. fmembers-end (c .before .before .before .loop .inv) (c .before .if1 .left) (c .new3 .ensures)) -- returns-4
+    (λ c κs. search (needs, fstruct-laws))  -- members-requires
+    (λ c. search (needs, fstruct-laws))  -- loop-holds
+    (λ c κs. search (needs, fstruct-laws))  -- new-requires
+    (λ c κs. search (needs, fstruct-laws))  -- take-requires
+    (λ c. fmembers-next (c .before .before .before .before .before .before .before .before .loop .inv) (c .before .before .before .before .new .ensures) _ _ (c .before .before .before .take .ensures) (c .if2 .taken) (c .before .before .before .before .before .before .before .before .before .before .before .before .before .before .good .1 .1 .1 .1 .0 .0))  -- add-m
+    (λ c κs. search (needs, fstruct-laws))  -- after-requires
+    (λ c. search (needs, fstruct-laws))  -- loop-less
+    (λ c. fmembers-quick (c .before .before .before .before .before .before .before .before .before .loop .inv) (c .before .before .before .before .before .new .ensures) _ _ (c .before .before .before .before .take .ensures) (c .before .before .before .before .before .before .before .if1 .taken) (c .before .if2 .taken) (c .after .ensures))  -- loop-again
+    (λ c κs. search (needs, fstruct-laws))  -- new-requires-2
+    (λ c κs. search (needs, fstruct-laws))  -- fmember-requires
+    (λ c. search (needs, fstruct-laws))  -- enum-known-e
+    (λ c. search (needs, fstruct-laws))  -- enum-known-x
+    (λ c κs. search (needs, fstruct-laws))  -- absorbs-requires
+    (λ c. same-long (fmembers-still (c .before .before .before .before .before .before .before .before .before .before .before .before .before .before .before .before .before .before .before .loop .inv) (c .before .before .before .before .before .before .before .before .before .before .before .before .before .before .before .new .ensures) _ _ (c .before .before .before .before .before .before .before .before .before .before .before .before .before .before .take .ensures) (c .before .before .before .before .before .before .before .before .before .before .before .if2 .left) .so) (c .before .before .before .before .before .before .before .before .fmember .ensures))  -- same-length
+    (λ c. fmembers-ended (fmembers-still (c .before .before .before .before .before .before .before .before .before .before .before .before .before .before .before .before .before .before .before .loop .inv) (c .before .before .before .before .before .before .before .before .before .before .before .before .before .before .before .new .ensures) _ _ (c .before .before .before .before .before .before .before .before .before .before .before .before .before .before .take .ensures) (c .before .before .before .before .before .before .before .before .before .before .before .if2 .left)) (c .before .before .before .before .before .before .before .before .before .before .before .before .before .before .before .before .before .if1 .taken) (c .before .before .before .before .before .before .before .before .before .new2 .ensures) (c .before .before .before .before .before .before .before .before .fmember .ensures) (c .before .before .before .before .x .given .1) (c .before .before .absorbs .ensures) (c .before .if3 .taken))  -- returns
+    (λ c. same-long (fmembers-still (c .before .before .before .before .before .before .before .before .before .before .before .before .before .before .before .before .before .before .loop .inv) (c .before .before .before .before .before .before .before .before .before .before .before .before .before .before .new .ensures) _ _ (c .before .before .before .before .before .before .before .before .before .before .before .before .before .take .ensures) (c .before .before .before .before .before .before .before .before .before .before .if2 .left) .so) (c .before .before .before .before .before .before .before .fmember .ensures))  -- same-length-2
+    (λ c. fmembers-short (fmembers-still (c .before .before .before .before .before .before .before .before .before .before .before .before .before .before .before .before .before .before .loop .inv) (c .before .before .before .before .before .before .before .before .before .before .before .before .before .before .new .ensures) _ _ (c .before .before .before .before .before .before .before .before .before .before .before .before .before .take .ensures) (c .before .before .before .before .before .before .before .before .before .before .if2 .left)) (c .before .before .before .before .before .before .before .before .before .before .before .before .before .before .before .before .if1 .taken) (c .before .before .before .before .before .before .before .before .new2 .ensures) (c .before .before .before .before .before .before .before .fmember .ensures) (c .before .before .before .x .given .1) (c .before .absorbs .ensures) (c .if3 .left))  -- returns-2
+    (λ c. search (needs, fstruct-laws))  -- enum-known-why
+    (λ c. same-long (fmembers-still (c .before .before .before .before .before .before .before .before .before .before .before .before .before .before .before .before .loop .inv) (c .before .before .before .before .before .before .before .before .before .before .before .before .new .ensures) _ _ (c .before .before .before .before .before .before .before .before .before .before .before .take .ensures) (c .before .before .before .before .before .before .before .before .if2 .left) .so) (c .before .before .before .before .before .fmember .ensures))  -- same-length-3
+    (λ c. fmembers-refused (fmembers-still (c .before .before .before .before .before .before .before .before .before .before .before .before .before .before .before .before .loop .inv) (c .before .before .before .before .before .before .before .before .before .before .before .before .new .ensures) _ _ (c .before .before .before .before .before .before .before .before .before .before .before .take .ensures) (c .before .before .before .before .before .before .before .before .if2 .left)) (c .before .before .before .before .before .before .before .before .before .before .before .before .before .before .if1 .taken) (c .before .before .before .before .before .before .new2 .ensures) (c .before .before .before .before .before .fmember .ensures) (search needs))  -- returns-3
+    (λ c κs. search (needs, fstruct-laws))  -- after-requires-2
+    (λ c. search (needs, fstruct-laws))  -- loop-less-2
+    (λ c. fmembers-turn (fmembers-still (c .before .before .before .before .before .before .before .before .before .before .before .before .before .before .before .before .before .loop .inv) (c .before .before .before .before .before .before .before .before .before .before .before .before .before .new .ensures) _ _ (c .before .before .before .before .before .before .before .before .before .before .before .before .take .ensures) (c .before .before .before .before .before .before .before .before .before .if2 .left)) (c .before .before .before .before .before .before .before .before .before .before .before .before .before .before .before .if1 .taken) (c .before .before .before .before .before .before .before .new2 .ensures) (c .before .before .before .before .before .before .fmember .ensures) (search needs) (c .after2 .ensures))  -- loop-again-2
+    (λ c κs. search (needs, fstruct-laws))  -- new-requires-3
+    (λ c. search (needs, fstruct-laws))  -- same-length-4
+    (λ c. fmembers-end (c .before .before .before .loop .inv) (c .before .if1 .left) (c .new3 .ensures))  -- returns-4

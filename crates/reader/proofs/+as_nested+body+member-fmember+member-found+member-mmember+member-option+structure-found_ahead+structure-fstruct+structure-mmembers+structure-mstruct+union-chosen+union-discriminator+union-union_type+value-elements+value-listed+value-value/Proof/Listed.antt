@@ -18,15 +18,15 @@ E t = (primitive-element-reads.Asked, primitive-element-reads.Learnt, is-sequenc
 pub closed : (t : ℕ) {M : Type 1} → lts.Closed (E t) (value·listed-at t) value·listed.Post M
 closed t =
     lts.spec (E t) (value·listed-at t) value·listed.Post
-    (λ c κs. search (needs, listed-laws)) -- primitive-element-requires
-    (λ c κs. search (needs, listed-laws)) -- is-sequence-requires
-    (λ c κs. search (needs, listed-laws)) -- bound-requires
-    (λ c. search (needs, listed-laws)) -- cast-count-from
-    (λ c κs. search (needs, listed-laws)) -- count-from-requires
-    (λ c. search (needs, listed-laws)) -- enum-known-x
-    (λ c. search (needs, listed-laws)) -- enum-known-count
-    (λ c κs. search (needs, listed-laws)) -- element-requires
-    (λ c κs. search (needs, listed-laws)) -- elements-requires
-    (λ c. search (needs, listed-laws)) -- returns
-    (λ c. search (needs, listed-laws)) -- same-length
-    (λ c. search (needs, listed-laws)) -- returns-2
+    (λ c κs. search (needs, listed-laws))  -- primitive-element-requires
+    (λ c κs. search (needs, listed-laws))  -- is-sequence-requires
+    (λ c κs. search (needs, listed-laws))  -- bound-requires
+    (λ c. search (needs, listed-laws))  -- cast-count-from
+    (λ c κs. search (needs, listed-laws))  -- count-from-requires
+    (λ c. search (needs, listed-laws))  -- enum-known-x
+    (λ c. search (needs, listed-laws))  -- enum-known-count
+    (λ c κs. search (needs, listed-laws))  -- element-requires
+    (λ c κs. search (needs, listed-laws))  -- elements-requires
+    (λ c. search (needs, listed-laws))  -- returns
+    (λ c. search (needs, listed-laws))  -- same-length
+    (λ c. search (needs, listed-laws))  -- returns-2

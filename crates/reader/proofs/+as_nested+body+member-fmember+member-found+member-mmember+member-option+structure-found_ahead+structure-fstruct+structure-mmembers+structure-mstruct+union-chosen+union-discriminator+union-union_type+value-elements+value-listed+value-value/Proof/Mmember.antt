@@ -16,21 +16,21 @@ E t = (id-reads.Asked, id-reads.Learnt, locate-reads.Asked, locate-reads.Learnt,
 pub closed : (t : ℕ) {M : Type 1} → lts.Closed (E t) (member·mmember-at t) member·mmember.Post M
 closed t =
     lts.spec (E t) (member·mmember-at t) member·mmember.Post
-    (λ c κs. search (needs, mmember-laws)) -- id-requires
-    (λ c κs. search (needs, mmember-laws)) -- locate-requires
-    (λ c. search (needs, mmember-laws)) -- enum-known-x
-    (λ c. search (needs, mmember-laws)) -- enum-known-back
-    (λ c. search (needs, mmember-laws)) -- enum-known-length
-    (λ c κs. search (needs, mmember-laws)) -- found-requires
-    (λ c. search (needs, mmember-laws)) -- enum-known-m
-    (λ c. search (needs, mmember-laws)) -- enum-known-x-2
-    (λ c κs. search (needs, mmember-laws)) -- back-to-requires
-    (λ c. search (needs, mmember-laws)) -- enum-known-k
-    (λ c. search (needs, mmember-laws)) -- returns
-    (λ c. search (needs, mmember-laws)) -- returns-2
-    (λ c. search (needs, mmember-laws)) -- same-length
-    (λ c. search (needs, mmember-laws)) -- returns-3
-    (λ c. search (needs, mmember-laws)) -- same-length-2
-    (λ c. search (needs, mmember-laws)) -- returns-4
-    (λ c. search (needs, mmember-laws)) -- same-length-3
-    (λ c. search (needs, mmember-laws)) -- returns-5
+    (λ c κs. search (needs, mmember-laws))  -- id-requires
+    (λ c κs. search (needs, mmember-laws))  -- locate-requires
+    (λ c. search (needs, mmember-laws))  -- enum-known-x
+    (λ c. search (needs, mmember-laws))  -- enum-known-back
+    (λ c. search (needs, mmember-laws))  -- enum-known-length
+    (λ c κs. search (needs, mmember-laws))  -- found-requires
+    (λ c. search (needs, mmember-laws))  -- enum-known-m
+    (λ c. search (needs, mmember-laws))  -- enum-known-x-2
+    (λ c κs. search (needs, mmember-laws))  -- back-to-requires
+    (λ c. search (needs, mmember-laws))  -- enum-known-k
+    (λ c. search (needs, mmember-laws))  -- returns
+    (λ c. search (needs, mmember-laws))  -- returns-2
+    (λ c. search (needs, mmember-laws))  -- same-length
+    (λ c. search (needs, mmember-laws))  -- returns-3
+    (λ c. search (needs, mmember-laws))  -- same-length-2
+    (λ c. search (needs, mmember-laws))  -- returns-4
+    (λ c. search (needs, mmember-laws))  -- same-length-3
+    (λ c. search (needs, mmember-laws))  -- returns-5

@@ -33,42 +33,42 @@ abbrev μ-loop : lts.MeasureT-loop
 pub closed : (t : ℕ) {M : Type 1} → lts.Closed (E t) (structure·mmembers-at t) structure·mmembers.Post M
 closed t =
     lts.spec (E t) (structure·mmembers-at t) structure·mmembers.Post Inv-loop μ-loop
-    (λ c κs. search (needs, mmembers-laws)) -- members-requires
-    (λ c. looked-start _ _ _ _ _ _ _ _ (c .members .ensures) (c .before .before .before .before .before .pre .1)) -- loop-holds
-    (λ c κs. c .before .before .loop .inv .hint .place) -- ahead-requires
-    (λ c κs. search (needs, mmembers-laws)) -- id-requires
-    (λ c κs. search (needs, mmembers-laws)) -- value-at-requires
-    (λ c κs. small-as (c .before .id .ensures) (c .before .before .before .ahead .ensures .small (c .before .before .if2 .taken))) -- hint-after-requires
-    (λ c. search (needs, mmembers-laws)) -- cast-take-found
-    (λ c κs. c .before .before .before .id .ensures) -- take-found-requires
-    (λ c. found-next (c .before .before .before .before .before .before .before .before .before .before .before .before .loop .inv) _ _ _ (c .before .before .before .take-found .ensures) (c .if3 .taken) (c .before .before .before .before .before .before .before .before .before .before .before .before .before .before .before .before .before .before .good .1 .1 .1 .1 .0 .0)) -- add-m
-    (λ c κs. search (needs, mmembers-laws)) -- after-requires
-    (λ c. fewer (c .before .before .before .before .before .before .before .before .before .before .before .if1 .taken) (c .after .ensures)) -- loop-less
-    (λ c. found-quick (c .before .before .before .before .before .before .before .before .before .before .before .before .before .loop .inv) (found-at _ _ _ (c .before .before .before .before .before .before .before .value-at .ensures) (c .before .before .before .before .before .before .before .before .before .before .ahead .ensures .found _ (c .before .before .before .before .before .before .before .before .before .before .before .before .before .loop .inv .aligned (c .before .before .before .before .before .before .before .before .before .before .before .if1 .taken)) (c .before .before .before .before .before .before .before .before .before .before .before .before .before .loop .inv .hint) (c .before .before .before .before .before .before .before .before .before .if2 .taken))) _ _ (c .before .before .before .before .take-found .ensures) (c .before .before .before .before .before .before .before .before .before .before .before .if1 .taken) (c .before .if3 .taken) (c .after .ensures) (hint-on _ _ _ _ (c .before .before .before .before .before .before .before .before .before .before .ahead .result) (c .before .before .before .before .before .before .hint-after .ensures) (c .before .before .before .before .before .before .before .before .id .ensures) (c .before .before .before .before .before .before .before .before .before .before .ahead .ensures .on _ (c .before .before .before .before .before .before .before .before .before .before .before .before .before .loop .inv .hint) (c .before .before .before .before .before .before .before .before .before .if2 .taken)))) -- loop-again
-    (λ c. search (needs, mmembers-laws)) -- cast-found-ahead
-    (λ c κs. (search (needs, mmembers-laws, c .before .before .before .before .before .before .before .before .before .before .before .before .before .before .before .before .before .before .before .pre .0), search (needs, c .before .before .before .before .before .before .before .before .id .ensures))) -- found-ahead-requires
-    (λ c. search (needs, mmembers-laws)) -- enum-known-k
-    (λ c κs. search (needs, mmembers-laws)) -- after-requires-2
-    (λ c. fewer (c .before .before .before .before .before .before .before .before .before .before .before .before .before .before .before .before .before .before .if1 .taken) (c .after2 .ensures)) -- loop-less-2
-    (λ c. found-turn (found-still (c .before .before .before .before .before .before .before .before .before .before .before .before .before .before .before .before .before .before .before .before .loop .inv) _ _ _ (c .before .before .before .before .before .before .before .before .before .before .before .take-found .ensures) (c .before .before .before .before .before .before .before .before .if3 .left)) (found-at _ _ _ (c .before .before .before .before .before .before .before .before .before .before .before .before .before .before .value-at .ensures) (c .before .before .before .before .before .before .before .before .before .before .before .before .before .before .before .before .before .ahead .ensures .found _ (c .before .before .before .before .before .before .before .before .before .before .before .before .before .before .before .before .before .before .before .before .loop .inv .aligned (c .before .before .before .before .before .before .before .before .before .before .before .before .before .before .before .before .before .before .if1 .taken)) (c .before .before .before .before .before .before .before .before .before .before .before .before .before .before .before .before .before .before .before .before .loop .inv .hint) (c .before .before .before .before .before .before .before .before .before .before .before .before .before .before .before .before .if2 .taken))) (c .before .before .before .before .before .before .before .before .before .before .before .before .before .before .before .before .before .before .if1 .taken) (c .before .before .before .before .before .before .found-ahead .ensures) (c .before .before .k .given .1) (c .after2 .ensures) (hint-on _ _ _ _ (c .before .before .before .before .before .before .before .before .before .before .before .before .before .before .before .before .before .ahead .result) (c .before .before .before .before .before .before .before .before .before .before .before .before .before .hint-after .ensures) (c .before .before .before .before .before .before .before .before .before .before .before .before .before .before .before .id .ensures) (c .before .before .before .before .before .before .before .before .before .before .before .before .before .before .before .before .before .ahead .ensures .on _ (c .before .before .before .before .before .before .before .before .before .before .before .before .before .before .before .before .before .before .before .before .loop .inv .hint) (c .before .before .before .before .before .before .before .before .before .before .before .before .before .before .before .before .if2 .taken)))) -- loop-again-2
-    (λ c. search (needs, mmembers-laws)) -- enum-known-x
-    (λ c κs. search (needs, mmembers-laws)) -- back-to-requires
-    (λ c. same-long (found-still (c .before .before .before .before .before .before .before .before .before .before .before .before .before .before .before .before .before .before .before .before .loop .inv) _ _ _ (c .before .before .before .before .before .before .before .before .before .before .before .take-found .ensures) (c .before .before .before .before .before .before .before .before .if3 .left) .so) (c .before .before .before .before .before .before .found-ahead .ensures)) -- same-length
-    (λ c. found-short (found-still (c .before .before .before .before .before .before .before .before .before .before .before .before .before .before .before .before .before .before .before .before .loop .inv) _ _ _ (c .before .before .before .before .before .before .before .before .before .before .before .take-found .ensures) (c .before .before .before .before .before .before .before .before .if3 .left)) (found-at _ _ _ (c .before .before .before .before .before .before .before .before .before .before .before .before .before .before .value-at .ensures) (c .before .before .before .before .before .before .before .before .before .before .before .before .before .before .before .before .before .ahead .ensures .found _ (c .before .before .before .before .before .before .before .before .before .before .before .before .before .before .before .before .before .before .before .before .loop .inv .aligned (c .before .before .before .before .before .before .before .before .before .before .before .before .before .before .before .before .before .before .if1 .taken)) (c .before .before .before .before .before .before .before .before .before .before .before .before .before .before .before .before .before .before .before .before .loop .inv .hint) (c .before .before .before .before .before .before .before .before .before .before .before .before .before .before .before .before .if2 .taken))) (c .before .before .before .before .before .before .before .before .before .before .before .before .before .before .before .before .before .before .if1 .taken) (c .before .before .before .before .before .before .found-ahead .ensures) (c .before .before .x .given .1) (c .back-to .ensures)) -- returns
-    (λ c. search (needs, mmembers-laws)) -- enum-known-k-2
-    (λ c. same-long (found-still (c .before .before .before .before .before .before .before .before .before .before .before .before .before .before .before .before .before .before .before .loop .inv) _ _ _ (c .before .before .before .before .before .before .before .before .before .before .take-found .ensures) (c .before .before .before .before .before .before .before .if3 .left) .so) (c .before .before .before .before .before .found-ahead .ensures)) -- same-length-2
-    (λ c. found-refused (found-still (c .before .before .before .before .before .before .before .before .before .before .before .before .before .before .before .before .before .before .before .loop .inv) _ _ _ (c .before .before .before .before .before .before .before .before .before .before .take-found .ensures) (c .before .before .before .before .before .before .before .if3 .left)) (found-at _ _ _ (c .before .before .before .before .before .before .before .before .before .before .before .before .before .value-at .ensures) (c .before .before .before .before .before .before .before .before .before .before .before .before .before .before .before .before .ahead .ensures .found _ (c .before .before .before .before .before .before .before .before .before .before .before .before .before .before .before .before .before .before .before .loop .inv .aligned (c .before .before .before .before .before .before .before .before .before .before .before .before .before .before .before .before .before .if1 .taken)) (c .before .before .before .before .before .before .before .before .before .before .before .before .before .before .before .before .before .before .before .loop .inv .hint) (c .before .before .before .before .before .before .before .before .before .before .before .before .before .before .before .if2 .taken))) (c .before .before .before .before .before .before .before .before .before .before .before .before .before .before .before .before .before .if1 .taken) (c .before .before .before .before .before .found-ahead .ensures) (c .before .k2 .given .1)) -- returns-2
-    (λ c κs. search (needs, mmembers-laws, c .before .before .before .before .before .before .before .before .before .before .before .pre .0)) -- mmember-requires
-    (λ c. search (needs, mmembers-laws)) -- enum-known-k-3
-    (λ c κs. search (needs, mmembers-laws)) -- after-requires-3
-    (λ c. fewer (c .before .before .before .before .before .before .before .before .before .before .if1 .taken) (c .after3 .ensures)) -- loop-less-3
-    (λ c. looked-turn (c .before .before .before .before .before .before .before .before .before .before .before .before .loop .inv) (c .before .before .before .before .before .before .before .before .before .before .if1 .taken) (c .before .before .before .before .before .before .mmember .ensures) (c .before .before .k3 .given .1) (c .after3 .ensures)) -- loop-again-3
-    (λ c. search (needs, mmembers-laws)) -- enum-known-x-2
-    (λ c. same-long (c .before .before .before .before .before .before .before .before .before .before .before .loop .inv .so) (c .before .before .before .before .before .mmember .ensures)) -- same-length-3
-    (λ c. looked-short (c .before .before .before .before .before .before .before .before .before .before .before .loop .inv) (c .before .before .before .before .before .before .before .before .before .if1 .taken) (c .before .before .before .before .before .mmember .ensures) (c .before .x2 .given .1)) -- returns-3
-    (λ c. search (needs, mmembers-laws)) -- enum-known-k-4
-    (λ c. same-long (c .before .before .before .before .before .before .before .before .before .before .before .loop .inv .so) (c .before .before .before .before .before .mmember .ensures)) -- same-length-4
-    (λ c. looked-refused (c .before .before .before .before .before .before .before .before .before .before .before .loop .inv) (c .before .before .before .before .before .before .before .before .before .if1 .taken) (c .before .before .before .before .before .mmember .ensures) (c .before .k4 .given .1)) -- returns-4
-    (λ c κs. c .before .before .loop .inv .hint) -- ending-requires
-    (λ c. c .before .before .before .loop .inv .so .filled .long) -- same-length-5
-    (λ c. looked-end (c .before .before .before .loop .inv) (c .before .if1 .left) (c .ending .ensures)) -- returns-5
+    (λ c κs. search (needs, mmembers-laws))  -- members-requires
+    (λ c. looked-start _ _ _ _ _ _ _ _ (c .members .ensures) (c .before .before .before .before .before .pre .1))  -- loop-holds
+    (λ c κs. c .before .before .loop .inv .hint .place)  -- ahead-requires
+    (λ c κs. search (needs, mmembers-laws))  -- id-requires
+    (λ c κs. search (needs, mmembers-laws))  -- value-at-requires
+    (λ c κs. small-as (c .before .id .ensures) (c .before .before .before .ahead .ensures .small (c .before .before .if2 .taken)))  -- hint-after-requires
+    (λ c. search (needs, mmembers-laws))  -- cast-take-found
+    (λ c κs. c .before .before .before .id .ensures)  -- take-found-requires
+    (λ c. found-next (c .before .before .before .before .before .before .before .before .before .before .before .before .loop .inv) _ _ _ (c .before .before .before .take-found .ensures) (c .if3 .taken) (c .before .before .before .before .before .before .before .before .before .before .before .before .before .before .before .before .before .before .good .1 .1 .1 .1 .0 .0))  -- add-m
+    (λ c κs. search (needs, mmembers-laws))  -- after-requires
+    (λ c. fewer (c .before .before .before .before .before .before .before .before .before .before .before .if1 .taken) (c .after .ensures))  -- loop-less
+    (λ c. found-quick (c .before .before .before .before .before .before .before .before .before .before .before .before .before .loop .inv) (found-at _ _ _ (c .before .before .before .before .before .before .before .value-at .ensures) (c .before .before .before .before .before .before .before .before .before .before .ahead .ensures .found _ (c .before .before .before .before .before .before .before .before .before .before .before .before .before .loop .inv .aligned (c .before .before .before .before .before .before .before .before .before .before .before .if1 .taken)) (c .before .before .before .before .before .before .before .before .before .before .before .before .before .loop .inv .hint) (c .before .before .before .before .before .before .before .before .before .if2 .taken))) _ _ (c .before .before .before .before .take-found .ensures) (c .before .before .before .before .before .before .before .before .before .before .before .if1 .taken) (c .before .if3 .taken) (c .after .ensures) (hint-on _ _ _ _ (c .before .before .before .before .before .before .before .before .before .before .ahead .result) (c .before .before .before .before .before .before .hint-after .ensures) (c .before .before .before .before .before .before .before .before .id .ensures) (c .before .before .before .before .before .before .before .before .before .before .ahead .ensures .on _ (c .before .before .before .before .before .before .before .before .before .before .before .before .before .loop .inv .hint) (c .before .before .before .before .before .before .before .before .before .if2 .taken))))  -- loop-again
+    (λ c. search (needs, mmembers-laws))  -- cast-found-ahead
+    (λ c κs. (search (needs, mmembers-laws, c .before .before .before .before .before .before .before .before .before .before .before .before .before .before .before .before .before .before .before .pre .0), search (needs, c .before .before .before .before .before .before .before .before .id .ensures)))  -- found-ahead-requires
+    (λ c. search (needs, mmembers-laws))  -- enum-known-k
+    (λ c κs. search (needs, mmembers-laws))  -- after-requires-2
+    (λ c. fewer (c .before .before .before .before .before .before .before .before .before .before .before .before .before .before .before .before .before .before .if1 .taken) (c .after2 .ensures))  -- loop-less-2
+    (λ c. found-turn (found-still (c .before .before .before .before .before .before .before .before .before .before .before .before .before .before .before .before .before .before .before .before .loop .inv) _ _ _ (c .before .before .before .before .before .before .before .before .before .before .before .take-found .ensures) (c .before .before .before .before .before .before .before .before .if3 .left)) (found-at _ _ _ (c .before .before .before .before .before .before .before .before .before .before .before .before .before .before .value-at .ensures) (c .before .before .before .before .before .before .before .before .before .before .before .before .before .before .before .before .before .ahead .ensures .found _ (c .before .before .before .before .before .before .before .before .before .before .before .before .before .before .before .before .before .before .before .before .loop .inv .aligned (c .before .before .before .before .before .before .before .before .before .before .before .before .before .before .before .before .before .before .if1 .taken)) (c .before .before .before .before .before .before .before .before .before .before .before .before .before .before .before .before .before .before .before .before .loop .inv .hint) (c .before .before .before .before .before .before .before .before .before .before .before .before .before .before .before .before .if2 .taken))) (c .before .before .before .before .before .before .before .before .before .before .before .before .before .before .before .before .before .before .if1 .taken) (c .before .before .before .before .before .before .found-ahead .ensures) (c .before .before .k .given .1) (c .after2 .ensures) (hint-on _ _ _ _ (c .before .before .before .before .before .before .before .before .before .before .before .before .before .before .before .before .before .ahead .result) (c .before .before .before .before .before .before .before .before .before .before .before .before .before .hint-after .ensures) (c .before .before .before .before .before .before .before .before .before .before .before .before .before .before .before .id .ensures) (c .before .before .before .before .before .before .before .before .before .before .before .before .before .before .before .before .before .ahead .ensures .on _ (c .before .before .before .before .before .before .before .before .before .before .before .before .before .before .before .before .before .before .before .before .loop .inv .hint) (c .before .before .before .before .before .before .before .before .before .before .before .before .before .before .before .before .if2 .taken))))  -- loop-again-2
+    (λ c. search (needs, mmembers-laws))  -- enum-known-x
+    (λ c κs. search (needs, mmembers-laws))  -- back-to-requires
+    (λ c. same-long (found-still (c .before .before .before .before .before .before .before .before .before .before .before .before .before .before .before .before .before .before .before .before .loop .inv) _ _ _ (c .before .before .before .before .before .before .before .before .before .before .before .take-found .ensures) (c .before .before .before .before .before .before .before .before .if3 .left) .so) (c .before .before .before .before .before .before .found-ahead .ensures))  -- same-length
+    (λ c. found-short (found-still (c .before .before .before .before .before .before .before .before .before .before .before .before .before .before .before .before .before .before .before .before .loop .inv) _ _ _ (c .before .before .before .before .before .before .before .before .before .before .before .take-found .ensures) (c .before .before .before .before .before .before .before .before .if3 .left)) (found-at _ _ _ (c .before .before .before .before .before .before .before .before .before .before .before .before .before .before .value-at .ensures) (c .before .before .before .before .before .before .before .before .before .before .before .before .before .before .before .before .before .ahead .ensures .found _ (c .before .before .before .before .before .before .before .before .before .before .before .before .before .before .before .before .before .before .before .before .loop .inv .aligned (c .before .before .before .before .before .before .before .before .before .before .before .before .before .before .before .before .before .before .if1 .taken)) (c .before .before .before .before .before .before .before .before .before .before .before .before .before .before .before .before .before .before .before .before .loop .inv .hint) (c .before .before .before .before .before .before .before .before .before .before .before .before .before .before .before .before .if2 .taken))) (c .before .before .before .before .before .before .before .before .before .before .before .before .before .before .before .before .before .before .if1 .taken) (c .before .before .before .before .before .before .found-ahead .ensures) (c .before .before .x .given .1) (c .back-to .ensures))  -- returns
+    (λ c. search (needs, mmembers-laws))  -- enum-known-k-2
+    (λ c. same-long (found-still (c .before .before .before .before .before .before .before .before .before .before .before .before .before .before .before .before .before .before .before .loop .inv) _ _ _ (c .before .before .before .before .before .before .before .before .before .before .take-found .ensures) (c .before .before .before .before .before .before .before .if3 .left) .so) (c .before .before .before .before .before .found-ahead .ensures))  -- same-length-2
+    (λ c. found-refused (found-still (c .before .before .before .before .before .before .before .before .before .before .before .before .before .before .before .before .before .before .before .loop .inv) _ _ _ (c .before .before .before .before .before .before .before .before .before .before .take-found .ensures) (c .before .before .before .before .before .before .before .if3 .left)) (found-at _ _ _ (c .before .before .before .before .before .before .before .before .before .before .before .before .before .value-at .ensures) (c .before .before .before .before .before .before .before .before .before .before .before .before .before .before .before .before .ahead .ensures .found _ (c .before .before .before .before .before .before .before .before .before .before .before .before .before .before .before .before .before .before .before .loop .inv .aligned (c .before .before .before .before .before .before .before .before .before .before .before .before .before .before .before .before .before .if1 .taken)) (c .before .before .before .before .before .before .before .before .before .before .before .before .before .before .before .before .before .before .before .loop .inv .hint) (c .before .before .before .before .before .before .before .before .before .before .before .before .before .before .before .if2 .taken))) (c .before .before .before .before .before .before .before .before .before .before .before .before .before .before .before .before .before .if1 .taken) (c .before .before .before .before .before .found-ahead .ensures) (c .before .k2 .given .1))  -- returns-2
+    (λ c κs. search (needs, mmembers-laws, c .before .before .before .before .before .before .before .before .before .before .before .pre .0))  -- mmember-requires
+    (λ c. search (needs, mmembers-laws))  -- enum-known-k-3
+    (λ c κs. search (needs, mmembers-laws))  -- after-requires-3
+    (λ c. fewer (c .before .before .before .before .before .before .before .before .before .before .if1 .taken) (c .after3 .ensures))  -- loop-less-3
+    (λ c. looked-turn (c .before .before .before .before .before .before .before .before .before .before .before .before .loop .inv) (c .before .before .before .before .before .before .before .before .before .before .if1 .taken) (c .before .before .before .before .before .before .mmember .ensures) (c .before .before .k3 .given .1) (c .after3 .ensures))  -- loop-again-3
+    (λ c. search (needs, mmembers-laws))  -- enum-known-x-2
+    (λ c. same-long (c .before .before .before .before .before .before .before .before .before .before .before .loop .inv .so) (c .before .before .before .before .before .mmember .ensures))  -- same-length-3
+    (λ c. looked-short (c .before .before .before .before .before .before .before .before .before .before .before .loop .inv) (c .before .before .before .before .before .before .before .before .before .if1 .taken) (c .before .before .before .before .before .mmember .ensures) (c .before .x2 .given .1))  -- returns-3
+    (λ c. search (needs, mmembers-laws))  -- enum-known-k-4
+    (λ c. same-long (c .before .before .before .before .before .before .before .before .before .before .before .loop .inv .so) (c .before .before .before .before .before .mmember .ensures))  -- same-length-4
+    (λ c. looked-refused (c .before .before .before .before .before .before .before .before .before .before .before .loop .inv) (c .before .before .before .before .before .before .before .before .before .if1 .taken) (c .before .before .before .before .before .mmember .ensures) (c .before .k4 .given .1))  -- returns-4
+    (λ c κs. c .before .before .loop .inv .hint)  -- ending-requires
+    (λ c. c .before .before .before .loop .inv .so .filled .long)  -- same-length-5
+    (λ c. looked-end (c .before .before .before .loop .inv) (c .before .if1 .left) (c .ending .ensures))  -- returns-5

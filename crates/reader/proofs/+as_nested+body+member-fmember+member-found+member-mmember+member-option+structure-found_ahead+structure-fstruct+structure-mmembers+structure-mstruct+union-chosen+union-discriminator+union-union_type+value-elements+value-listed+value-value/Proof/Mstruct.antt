@@ -16,11 +16,11 @@ E t = (member-count-reads.Asked, member-count-reads.Learnt, start-at-reads.Asked
 pub closed : (t : ℕ) {M : Type 1} → lts.Closed (E t) (structure·mstruct-at t) structure·mstruct.Post M
 closed t =
     lts.spec (E t) (structure·mstruct-at t) structure·mstruct.Post
-    (λ c κs. search (needs, mstruct-laws)) -- member-count-requires
-    (λ c κs. search (needs, mstruct-laws)) -- start-at-requires
-    (λ c. search (needs, mstruct-laws)) -- enum-known-x
-    (λ c. search (needs, mstruct-laws)) -- enum-known-back
-    (λ c κs. (search (needs, mstruct-laws, c .before .before .before .before .before .before .before .before .before .before .pre), mstruct-hint _ _ _ _ _ _ (c .before .before .before .before .before .member-count .ensures .0) _ (c .before .before .before .before .start-at .ensures) _ _ (c .before .before .back .given .1))) -- mmembers-requires
-    (λ c. mstruct-short _ _ _ _ _ _ (c .before .before .before .before .member-count .ensures .0) _ (c .before .before .before .start-at .ensures) _ _ _ _ _ _ (c .before .x .given .1)) -- returns
-    (λ c. search (needs, mstruct-laws)) -- same-length
-    (λ c. mstruct-members _ _ _ _ _ _ (c .before .before .before .before .before .before .before .before .member-count .ensures .0) _ (c .before .before .before .before .before .before .before .start-at .ensures) _ _ _ _ _ _ _ (c .before .before .before .before .before .back .given .1) _ _ (c .before .before .mmembers .ensures)) -- returns-2
+    (λ c κs. search (needs, mstruct-laws))  -- member-count-requires
+    (λ c κs. search (needs, mstruct-laws))  -- start-at-requires
+    (λ c. search (needs, mstruct-laws))  -- enum-known-x
+    (λ c. search (needs, mstruct-laws))  -- enum-known-back
+    (λ c κs. (search (needs, mstruct-laws, c .before .before .before .before .before .before .before .before .before .before .pre), mstruct-hint _ _ _ _ _ _ (c .before .before .before .before .before .member-count .ensures .0) _ (c .before .before .before .before .start-at .ensures) _ _ (c .before .before .back .given .1)))  -- mmembers-requires
+    (λ c. mstruct-short _ _ _ _ _ _ (c .before .before .before .before .member-count .ensures .0) _ (c .before .before .before .start-at .ensures) _ _ _ _ _ _ (c .before .x .given .1))  -- returns
+    (λ c. search (needs, mstruct-laws))  -- same-length
+    (λ c. mstruct-members _ _ _ _ _ _ (c .before .before .before .before .before .before .before .before .member-count .ensures .0) _ (c .before .before .before .before .before .before .before .start-at .ensures) _ _ _ _ _ _ _ (c .before .before .before .before .before .back .given .1) _ _ (c .before .before .mmembers .ensures))  -- returns-2

@@ -17,21 +17,21 @@ E t = (member·mmember-below t, member·mmember.Post, read-boolean-reads.Asked, 
 pub closed : (t : ℕ) {M : Type 1} → lts.Closed (E t) (member·option-at t) member·option.Post M
 closed t =
     lts.spec (E t) (member·option-at t) member·option.Post
-    (λ c. search (needs, option-laws)) -- enum-told
-    (λ c κs. search (needs, option-laws)) -- mmember-requires
-    (λ c. search (needs, option-laws)) -- enum-told-2
-    (λ c κs. search (needs, option-laws)) -- read-boolean-requires
-    (λ c. search (needs, option-laws)) -- enum-known-x
-    (λ c. search (needs, option-laws)) -- enum-told-3
-    (λ c. search (needs, option-laws)) -- enum-known-present
-    (λ c κs. search (needs, option-laws)) -- type-index-requires
-    (λ c κs. search (needs, option-laws)) -- id-requires
-    (λ c. search (needs, option-laws)) -- cast-value
-    (λ c κs. search (needs, option-laws)) -- value-requires
-    (λ c. search (needs, option-laws)) -- same-length
-    (λ c. search (needs, option-laws)) -- returns
-    (λ c. search (needs, option-laws)) -- same-length-2
-    (λ c. search (needs, option-laws)) -- returns-2
-    (λ c. search (needs, option-laws)) -- returns-3
-    (λ c. search (needs, option-laws)) -- returns-4
-    (λ c. search (needs, option-laws)) -- returns-5
+    (λ c. search (needs, option-laws))  -- enum-told
+    (λ c κs. search (needs, option-laws))  -- mmember-requires
+    (λ c. search (needs, option-laws))  -- enum-told-2
+    (λ c κs. search (needs, option-laws))  -- read-boolean-requires
+    (λ c. search (needs, option-laws))  -- enum-known-x
+    (λ c. search (needs, option-laws))  -- enum-told-3
+    (λ c. search (needs, option-laws))  -- enum-known-present
+    (λ c κs. search (needs, option-laws))  -- type-index-requires
+    (λ c κs. search (needs, option-laws))  -- id-requires
+    (λ c. search (needs, option-laws))  -- cast-value
+    (λ c κs. search (needs, option-laws))  -- value-requires
+    (λ c. search (needs, option-laws))  -- same-length
+    (λ c. search (needs, option-laws))  -- returns
+    (λ c. search (needs, option-laws))  -- same-length-2
+    (λ c. search (needs, option-laws))  -- returns-2
+    (λ c. search (needs, option-laws))  -- returns-3
+    (λ c. search (needs, option-laws))  -- returns-4
+    (λ c. search (needs, option-laws))  -- returns-5

@@ -16,17 +16,17 @@ E t = (members-reads.Asked, members-reads.Learnt, union·discriminator-below t, 
 pub closed : (t : ℕ) {M : Type 1} → lts.Closed (E t) (union·union-type-at t) union·union-type.Post M
 closed t =
     lts.spec (E t) (union·union-type-at t) union·union-type.Post
-    (λ c κs. search (needs, union-type-laws)) -- members-requires
-    (λ c. search (needs, union-type-laws)) -- returns
-    (λ c κs. search (needs, union-type-laws)) -- discriminator-requires
-    (λ c. search (needs, union-type-laws)) -- enum-known-d
-    (λ c κs. search (needs, union-type-laws)) -- discriminator-at-requires
-    (λ c κs. search (needs, union-type-laws)) -- chosen-requires
-    (λ c. search (needs, union-type-laws)) -- enum-known-x
-    (λ c. search (needs, union-type-laws)) -- enum-known-k
-    (λ c. search (needs, union-type-laws)) -- same-length
-    (λ c. search (needs, union-type-laws)) -- returns-2
-    (λ c. search (needs, union-type-laws)) -- same-length-2
-    (λ c. search (needs, union-type-laws)) -- returns-3
-    (λ c. search (needs, union-type-laws)) -- same-length-3
-    (λ c. search (needs, union-type-laws)) -- returns-4
+    (λ c κs. search (needs, union-type-laws))  -- members-requires
+    (λ c. search (needs, union-type-laws))  -- returns
+    (λ c κs. search (needs, union-type-laws))  -- discriminator-requires
+    (λ c. search (needs, union-type-laws))  -- enum-known-d
+    (λ c κs. search (needs, union-type-laws))  -- discriminator-at-requires
+    (λ c κs. search (needs, union-type-laws))  -- chosen-requires
+    (λ c. search (needs, union-type-laws))  -- enum-known-x
+    (λ c. search (needs, union-type-laws))  -- enum-known-k
+    (λ c. search (needs, union-type-laws))  -- same-length
+    (λ c. search (needs, union-type-laws))  -- returns-2
+    (λ c. search (needs, union-type-laws))  -- same-length-2
+    (λ c. search (needs, union-type-laws))  -- returns-3
+    (λ c. search (needs, union-type-laws))  -- same-length-3
+    (λ c. search (needs, union-type-laws))  -- returns-4

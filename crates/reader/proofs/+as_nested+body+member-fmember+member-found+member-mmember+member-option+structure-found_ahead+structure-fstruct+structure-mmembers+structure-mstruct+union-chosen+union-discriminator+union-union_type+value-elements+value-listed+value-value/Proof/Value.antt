@@ -20,19 +20,19 @@ E t = (place-reads.Asked, place-reads.Learnt, kind-at-reads.Asked, kind-at-reads
 pub closed : (t : ℕ) {M : Type 1} → lts.Closed (E t) (value·value-at t) value·value.Post M
 closed t =
     lts.spec (E t) (value·value-at t) value·value.Post
-    (λ c κs. search (needs, value-laws)) -- place-requires
-    (λ c κs. search (needs, value-laws)) -- kind-at-requires
-    (λ c. search (needs, value-laws)) -- returns
-    (λ c κs. search (needs, value-laws)) -- unsupported-member-requires
-    (λ c. search (needs, value-laws)) -- returns-2
-    (λ c κs. search (needs, value-laws)) -- opens-requires
-    (λ c κs. search (needs, value-laws)) -- as-nested-requires
-    (λ c. search (needs, value-laws)) -- same-length
-    (λ c. search (needs, value-laws)) -- returns-3
-    (λ c κs. search (needs, value-laws)) -- listed-requires
-    (λ c. search (needs, value-laws)) -- same-length-2
-    (λ c. search (needs, value-laws)) -- returns-4
-    (λ c κs. search (needs, value-laws)) -- read-as-requires
-    (λ c κs. search (needs, value-laws)) -- scalar-requires
-    (λ c. search (needs, value-laws)) -- same-length-3
-    (λ c. search (needs, value-laws)) -- returns-5
+    (λ c κs. search (needs, value-laws))  -- place-requires
+    (λ c κs. search (needs, value-laws))  -- kind-at-requires
+    (λ c. search (needs, value-laws))  -- returns
+    (λ c κs. search (needs, value-laws))  -- unsupported-member-requires
+    (λ c. search (needs, value-laws))  -- returns-2
+    (λ c κs. search (needs, value-laws))  -- opens-requires
+    (λ c κs. search (needs, value-laws))  -- as-nested-requires
+    (λ c. search (needs, value-laws))  -- same-length
+    (λ c. search (needs, value-laws))  -- returns-3
+    (λ c κs. search (needs, value-laws))  -- listed-requires
+    (λ c. search (needs, value-laws))  -- same-length-2
+    (λ c. search (needs, value-laws))  -- returns-4
+    (λ c κs. search (needs, value-laws))  -- read-as-requires
+    (λ c κs. search (needs, value-laws))  -- scalar-requires
+    (λ c. search (needs, value-laws))  -- same-length-3
+    (λ c. search (needs, value-laws))  -- returns-5
