@@ -233,3 +233,7 @@ module _ (s : List ℕ) (set : Settings) (c : Cursor) (n : ℕ) (d : Cursor) (af
   pub four-aligned : readNumber s set c 4 ≡ number.Got n d → alignTo s (set .version) d 4 ≡ place.At d
   unfolding readNumber
   four-aligned g = four-by (alignTo s (set .version) c 4) refl g
+
+-- a number that is there whole, as the code finds it
+pub read-whole : (s : List ℕ) (set : Settings) (c : Cursor) (w q v : ℕ) (d : Cursor) → (q + w ≤ length s → q ≡ c .pos + paddingOf c (alignmentOf (set .version) w)) → q + w ≤ length s → v ≡ numberAt (set .order) 0 s q w → v < 256 ^ w → d ≡ cursorAt (q + w) (c .origin) → ReadIs s set c w (number.Got v d)
+read-whole s set c w q v d starts h is small e = record { is = sym (read-there s set c w q v (starts h) h is ∙ ap (number.Got v) (sym e)); small = small }

@@ -190,15 +190,18 @@ fn number_here(s: &[u8], order: ByteOrder, at: Cursor, width: usize) -> Number
     }
 }
 
-// Serialization rule 2: a primitive of `width` bytes.
+// Serialization rule 2: a primitive of `width` bytes. Most are there whole, and then one test settles the alignment and the bytes.
 pub fn read_number(s: &[u8], set: Settings, at: Cursor, width: usize) -> Number
     requires { ⌜ (0 < width) × (width ≤ 8) ⌝ }
     ensures { λ r. ⌜ ReadIs (now (s .entry)) set at width r ⌝ }
 {
     let version = set.version;
     let order = set.order;
-    let place = at.align(s, version, width);
-    match place {
+    let q = at.start(s, version, width);
+    if q + width <= s.len() {
+        return Number::Got(from_bytes(s, order, q, width), Cursor::new(q + width, at.origin));
+    }
+    match at.align(s, version, width) {
         Place::Short(x) => Number::Short(x),
         Place::At(c) => number_here(s, order, c, width),
     }
