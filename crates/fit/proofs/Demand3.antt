@@ -1,19 +1,17 @@
 -- DEMAND 3, AND THE CHECK BOTH WAYS. The statements cite only definitions of `specs/`: `checkOf` and `Checked` say what the check gives back,
 -- `reading` is the reader's written rules, `Untroubled` what is left of them.
 use Prim.Native.Nat.{ℕ}
-use mathlib.Core.Path.{_≡_, refl, sym, _∙_}
+use mathlib.Core.Path.{_≡_, sym, _∙_}
 use mathlib.Core.Bool.{true}
-use mathlib.Core.List.{List, _∷_, _++_}
+use mathlib.Core.List.{List}
 use native.Mathlib.Omega.{arith}
 use lib.Dec.{ltb}
-use lib.ListN.{length}
 use borrow.Author.Tests.{ltb-true, ltb-false}
 use Rattle.ground.proofs.Tests.{apart}
 use Rattle.wire.specs.declared.settings.Settings.{Settings}
 use Rattle.wire.specs.Place.{cursorAt}
-use Rattle.book.specs.Types.{BookType, typeCount, typesOf, typeNo}
+use Rattle.book.specs.Types.{BookType, typeCount, typesOf}
 use Rattle.book.specs.Rules.{bookOk}
-use Rattle.table.specs.declared.rows.Row.{Row}
 use Rattle.table.specs.Outcome.{Outcome, numberOf, refusalNumber, rowsOf}
 use Rattle.reader.specs.Nested.{reading}
 use Rattle.fit.specs.Fit.{checkClauses, Passes}

@@ -1,13 +1,12 @@
 -- The check at work: types that it passes, one for each kind; types that fail by one clause alone; chains of 16 and 17; a diamond of 64 records,
 -- whose paths no walk could follow one by one; example 1's book. All are computed from the definitions.
-use Prim.Native.Nat.{ℕ, zero, suc, _+_, _-_, _*_, _≤_}
-use mathlib.Core.Path.{_≡_, refl, sym, ap, _∙_}
+use Prim.Native.Nat.{ℕ, zero, suc, _+_, _-_}
+use mathlib.Core.Path.{_≡_, refl}
 use mathlib.Core.Bool.{Bool, true, not}
 use mathlib.Core.List.{List, [], _∷_, _++_}
-use native.Mathlib.Omega.{arith}
 use lib.ListN.{length}
 use Rattle.ground.specs.Choice.{every}
-use Rattle.kinds.specs.Kinds.{opens, storedOf, unsupportedMember, unsupportedElement, bitmaskStored, storedByBound}
+use Rattle.kinds.specs.Kinds.{opens, unsupportedMember, unsupportedElement, bitmaskStored, storedByBound}
 use Rattle.book.specs.Types.{BookType, Member, noIndex, default, bounded, labelsOf, memberOf, pastMember, membersOf, typeOf, pastType, typesFrom, typesOf, noType, typeNo}
 use Rattle.book.specs.Rules.{sizeOk, versionOk, typeCountOk, headOk, filled, recordLengthOk, kindOk, extensibilityOk, baseOk, boundFlagOk, codesOk, arrayBoundOk, boundOk, elementOk, memberCountOk, memberKindOk, someMemberOk, ownOk, boundsOk, countOk}
 use Rattle.book.specs.Rules.{otherId, idOk, linkOk, flagsOk, constructOk, labelCountOk, firstOfUnion, firstIdOk, firstKindOk, firstDefaultOk, firstLabelOk, memberOk, membersOk, typeOk, recordOk, recordsOk, bookOk}

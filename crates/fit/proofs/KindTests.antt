@@ -1,16 +1,16 @@
 -- What a test of a kind says of it, by one computed test over the kinds in question: as what kind a type is read. Assumes nothing.
 use Prim.Native.Nat.{ℕ, _≤_}
-use mathlib.Core.Path.{_≡_, refl, sym, ap, _∙_}
+use mathlib.Core.Path.{_≡_, refl, sym, _∙_}
 use mathlib.Core.Bool.{Bool, true, false, not, _||_}
-use mathlib.Core.List.{List, [], _∷_}
+use mathlib.Core.List.{[], _∷_}
 use native.Mathlib.Omega.{arith}
 use lib.Dec.{eqb, leb, leb→le, T}
 use borrow.Author.Tests.{eqb-true, ne-eqb, not-true}
-use Rattle.ground.specs.Choice.{pick, both, every, among, _‥_, within}
-use Rattle.ground.proofs.Tests.{apart, both-first, both-second, both-right}
+use Rattle.ground.specs.Choice.{pick, both, every, among}
+use Rattle.ground.proofs.Tests.{apart, both-right}
 use Rattle.ground.proofs.Between.{passes, between}
 use Rattle.book.specs.Types.{BookType, bounded}
-use Rattle.kinds.specs.Kinds.{isPrimitive, storedOf, opens, unsupportedMember, unsupportedElement, bitmaskStored, storedByBound}
+use Rattle.kinds.specs.Kinds.{isPrimitive, storedOf, opens, unsupportedMember, unsupportedElement, bitmaskStored}
 use Rattle.reader.specs.Value.{readAs}
 use Rattle.shape.proofs.KindTests.{true-is, among-each, scalars, bitmask-among, by-mask, mask-stored, plain-stored}
 use Rattle.fit.specs.Fit.{chooses}

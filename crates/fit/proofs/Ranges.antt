@@ -9,7 +9,7 @@ use lib.Dec.{eqb, leb, ltb, lit<}
 use lib.ListN.{getD}
 use borrow.Author.Tests.{eqb-true, leb-true, le-leb, lt-ltb, ltb-false, not-true}
 use Rattle.ground.specs.Choice.{pick, both, every, among}
-use Rattle.ground.proofs.Tests.{both-first, both-second}
+use Rattle.ground.proofs.Tests.{both-second}
 use Rattle.wire.specs.declared.settings.ByteOrder.{ByteOrder}
 use Rattle.wire.specs.declared.settings.ByteOrder.the-variants.{BigEndian, LittleEndian}
 use Rattle.wire.specs.declared.settings.Settings.{Settings}

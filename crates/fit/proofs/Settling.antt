@@ -11,7 +11,7 @@ use lib.ListN.{length}
 use lib.IntN.{ℤ}
 use borrow.Author.Tests.{eqb-true, eq-eqb, not-true}
 use Rattle.ground.specs.Choice.{every, among}
-use Rattle.ground.proofs.Tests.{apart, both-first, both-second, one-second}
+use Rattle.ground.proofs.Tests.{apart, both-first, one-second}
 use Rattle.wire.specs.declared.cursor.Cursor.{Cursor}
 use Rattle.wire.specs.declared.cursor.Place.{Place}
 use Rattle.wire.specs.declared.cursor.Place.the-variants as place

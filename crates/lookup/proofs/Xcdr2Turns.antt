@@ -1,6 +1,6 @@
 -- The XCDR2 search: a law for each way through its functions, that a header moves on, and that no header ends the search. Assumes
 -- nothing.
-use Prim.Native.Nat.{ℕ, _-_, _*_, _<_, _≤_, _%_, _^_}
+use Prim.Native.Nat.{ℕ, _-_, _*_, _<_, _≤_, _^_}
 use mathlib.Core.Path.{_≡_, sym, ap, _∙_}
 use mathlib.Core.Bool.{Bool, true, false}
 use mathlib.Core.List.{List}

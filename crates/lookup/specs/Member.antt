@@ -22,7 +22,7 @@ locatedV1 (seek.Found n c) back = pick (ltb 0 n) (Found n (cursorAt (c .pos) (c 
 locatedV1 seek.PidNotFound back = Absent back
 locatedV1 (seek.Short x) back = Absent back
 
--- "a match of any length reads the value. .. The position comes back." No XCDR2 search is PidNotFound (proofs/Xcdr2Turns.antt,
+-- "a match of any length reads the value. .. The position comes back." "A failed lookup stores nothing". No XCDR2 search is PidNotFound (proofs/Xcdr2Turns.antt,
 -- `xcdr2-never-missing`).
 unfoldable pub locatedV2 : Seek → Cursor → Located
 locatedV2 (seek.Found n c) back = Found n c back

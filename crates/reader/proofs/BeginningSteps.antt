@@ -20,7 +20,6 @@ use Rattle.wire.specs.declared.dheader.Contents.the-variants.{Between, Short}
 use Rattle.wire.specs.Place.{cursorAt}
 use Rattle.wire.specs.Dheader.{contentsAt}
 use Rattle.wire.proofs.Moves.{after-at, after-short}
-use Rattle.book.specs.Types.{BookType}
 use Rattle.book.specs.Places.{typeAt}
 use Rattle.lookup.specs.Xcdr1.{seekToSentinel}
 use Rattle.table.specs.declared.out.Out.the-variants as out

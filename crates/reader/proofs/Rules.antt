@@ -1,5 +1,4 @@
 -- For each function of the cycle, the laws that its answers cite.
-use Rattle.table.proofs.Outcomes.{count-from, count-past}
 use Rattle.table.proofs.Filling.{full-fits}
 use Rattle.values.proofs.Scalars.{row-next}
 use Rattle.reader.proofs.RunSteps.{run-start, run-end}

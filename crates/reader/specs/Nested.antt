@@ -37,7 +37,7 @@ unfoldable pub isDelimited : BookType → Bool
 isDelimited t = among (1 ∷ 2 ∷ []) (t .extensibility)
 
 module _ (s : List ℕ) (set : Settings) where
-  -- "a Mutable union's DHEADER may fail unheard"
+  -- "a Mutable union's DHEADER may fail unheard"; "Refusals keep the position reached."
   unfoldable pub unheard : Contents → Contents
   unheard (contents.Short x) = undelimited s (x .at)
   unheard (contents.Between c end) = contents.Between c end
@@ -94,7 +94,7 @@ module _ (types : List BookType) (s : List ℕ) (set : Settings) (nest : Nest) w
   openedIf false ty id c room = refused InvalidType
   openedIf true ty id c room = roomFor room (closed (typeNo types ty .kind) id ty (bodyOf (typeNo types ty) c (room - 1)))
 
--- "12 TooDeep: a structure, enum or union would open at depth 17 (root is 1)", asked after the kind and before the room
+-- 12, "TooDeep: a structure, enum or union would open at depth 17 (root is 1)", asked after the kind and before the room
 unfoldable pub tooDeepIf : Bool → Outcome
 tooDeepIf false = refused InvalidType
 tooDeepIf true = refused TooDeep
@@ -104,6 +104,6 @@ unfoldable pub nestedAt : List BookType → List ℕ → Settings → ℕ → Ne
 nestedAt types s set zero ty id c room = tooDeepIf (opens (typeNo types ty .kind))
 nestedAt types s set (suc d) ty id c room = openedIf types s set (nestedAt types s set d) (opens (typeNo types ty .kind)) ty id c room
 
--- a whole reading of the data: the root is the first of 16, with room for so many rows
+-- a whole reading of the data: the root is the first of 16, with room for so many rows. "The root and an enum's value have id 0."
 unfoldable pub reading : List BookType → List ℕ → Settings → ℕ → ℕ → Outcome
 reading types s set root room = nestedAt types s set 16 root 0 (cursorAt 0 0) room

@@ -11,7 +11,6 @@ ghost use Prim.Native.Nat.{ℕ, _+_, _<_};
 ghost use lib.ListN.{length};
 ghost use Rattle.lookup.specs.Code.Ahead.{TrueHint};
 use book::bytes::byte_there;
-use book::bytes::is_there;
 use book::bytes::quad_there;
 use book::index::place;
 use book::types::bound;
@@ -114,7 +113,7 @@ pub fn absorbs(book: &[u8], at: usize, p: usize) -> bool
 }
 
 // Serialization rules 29 and 30: what begins a structure or a union, and where its members stand. Of a Mutable union a DHEADER that is
-// short leaves the reading where it was reached.
+// short is not heard: its members stand where it ran short.
 pub fn beginning(book: &[u8], s: &[u8], set: Settings, at: usize, c: Cursor) -> Contents
     ensures { λ r. ⌜ r ≡ beginningOf (now (s .entry)) set (typeAt (now (book .entry)) at) c ⌝ }
 {

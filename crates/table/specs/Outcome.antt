@@ -33,7 +33,7 @@ numberOf (refused k) = refusalNumber k
 
 -- ---- how outcomes are put together
 
--- "13 NoRoom: the next row has no place"
+-- 13, "NoRoom: the next row has no place"
 unfoldable pub roomFor : ℕ → Outcome → Outcome
 roomFor zero o = refused NoRoom
 roomFor (suc k) o = o
@@ -50,7 +50,8 @@ andThen (read c rs) rest = prepend rs (rest c (length rs))
 andThen (short x) rest = short x
 andThen (refused k) rest = refused k
 
--- the same, but where the flag says so a value with too few bytes ends the run as read, and keeps no row
+-- the same, but where the flag says so a value with too few bytes ends the run as read: "A member whose reading fails keeps no row.", "Refusals keep the
+-- position reached."
 unfoldable pub orEndIf : Bool → Outcome → (Cursor → ℕ → Outcome) → Outcome
 orEndIf flag (read c rs) rest = prepend rs (rest c (length rs))
 orEndIf true (short x) rest = read (x .at) []

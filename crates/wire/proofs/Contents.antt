@@ -1,14 +1,13 @@
 -- Laws of the DHEADER, and of contents with or without one. Assumes nothing.
 use Prim.Native.Nat.{ℕ, _+_, _<_, _≤_, _^_}
-use mathlib.Core.Path.{_≡_, refl, sym, ap, _∙_}
+use mathlib.Core.Path.{_≡_, sym, ap, _∙_}
 use mathlib.Core.Bool.{Bool, true, false}
 use mathlib.Core.List.{List}
-use native.Mathlib.Omega.{arith}
 use lib.ListN.{length}
-use Rattle.wire.specs.Place.{cursorAt, alignmentOf, paddingOf, alignTo}
-use Rattle.wire.specs.Number.{numberAt, readNumber, afterNumber}
+use Rattle.wire.specs.Place.{cursorAt, alignmentOf, paddingOf}
+use Rattle.wire.specs.Number.{numberAt, afterNumber}
 use Rattle.wire.specs.Code.Reads.{ReadIs}
-use Rattle.wire.specs.Dheader.{dheaderAt, undelimited, delimitedBy, contentsAt, afterContents}
+use Rattle.wire.specs.Dheader.{dheaderAt, delimitedBy, contentsAt, afterContents}
 use Rattle.wire.specs.declared.settings.Settings.{Settings}
 use Rattle.wire.specs.declared.settings.Version.{Version}
 use Rattle.wire.specs.declared.settings.Version.the-variants.{Xcdr1, Xcdr2}

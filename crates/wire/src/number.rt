@@ -199,7 +199,10 @@ pub fn read_number(s: &[u8], set: Settings, at: Cursor, width: usize) -> Number
     let order = set.order;
     let q = at.start(s, version, width);
     if q + width <= s.len() {
-        return Number::Got(from_bytes(s, order, q, width), Cursor::new(q + width, at.origin));
+        return Number::Got(
+            from_bytes(s, order, q, width),
+            Cursor::new(q + width, at.origin),
+        );
     }
     match at.align(s, version, width) {
         Place::Short(x) => Number::Short(x),

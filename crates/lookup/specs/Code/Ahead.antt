@@ -69,7 +69,7 @@ AheadAt s set id at n next (suc v) =
 unfoldable pub AheadIs : List ℕ → Settings → ℕ → Cursor → Ahead → Type 0
 AheadIs s set id at r = AheadAt s set id at (r .length) (r .next) (r .value)
 
--- where a found value is read: in XCDR1 "the origin moves there"
+-- where a found value is read, as `locatedV1` and `locatedV2` have it
 unfoldable pub valueAt : Version → ℕ → ℕ → Cursor
 valueAt Xcdr1 v origin = cursorAt v v
 valueAt Xcdr2 v origin = cursorAt v origin
@@ -104,7 +104,7 @@ pub record HeaderAhead (s : List ℕ) (set : Settings) (id : ℕ) (h : Hint) (or
   pub found : (back : Cursor) → alignTo s (set .version) back 4 ≡ place.At back → TrueHint s set back origin h → 0 < r .value → locate s set id back ≡ located.Found (r .length) (valueAt (set .version) (r .value) origin) back
   pub on : (back : Cursor) → TrueHint s set back origin h → 0 < r .value → TrueHint s set back origin (hintAfter r id)
 
--- where the lookups of a structure come back to: the first one's "align 4"; a structure without members has none
+-- where the lookups of a structure come back to: the first one's alignment, as `locate` has it; a structure without members has none
 unfoldable pub firstLookup : List ℕ → Settings → Bool → Cursor → Place
 firstLookup s set some c = pick some (alignTo s (set .version) c 4) (place.At c)
 

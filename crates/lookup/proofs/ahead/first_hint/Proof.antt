@@ -2,39 +2,28 @@ use Rattle.lookup.proofs.Hints.{true-start, true-nowhere}
 use borrow.Author.Needs.{needs}
 use Rattle.lookup.proofs.ahead.first_hint.Statement.{statement}
 use Rattle.lookup.proofs.ahead.first_hint.Tie as tie
-use Rattle.lookup.proofs.ahead.first_hint.Reads as reads
-use Rattle.lookup.proofs.ahead.first_hint.Lts as lts
-use Rattle.lookup.proofs.ahead.hint_at.Reads as hint-at-reads
 
--- src/ahead.rt:151:9
 hint-at-requires : tie.Need-hint-at-requires
 hint-at-requires c κs = search needs
 
--- src/ahead.rt:151:9
 returns : tie.Need-returns
 returns c = search (needs, true-start, true-nowhere)
 
--- src/ahead.rt:154:9
 hint-at-requires-2 : tie.Need-hint-at-requires-2
 hint-at-requires-2 c κs = search needs
 
--- src/ahead.rt:154:9
 returns-2 : tie.Need-returns-2
 returns-2 c = search (needs, true-start, true-nowhere)
 
--- src/ahead.rt:157:9
 hint-at-requires-3 : tie.Need-hint-at-requires-3
 hint-at-requires-3 c κs = search needs
 
--- src/ahead.rt:157:9
 returns-3 : tie.Need-returns-3
 returns-3 c = search (needs, true-start, true-nowhere)
 
--- src/ahead.rt:159:5
 hint-at-requires-4 : tie.Need-hint-at-requires-4
 hint-at-requires-4 c κs = search needs
 
--- src/ahead.rt:144:1
 returns-4 : tie.Need-returns-4
 returns-4 c = search (needs, true-start, true-nowhere)
 

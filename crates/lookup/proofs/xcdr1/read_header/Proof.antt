@@ -2,48 +2,34 @@ use Rattle.lookup.proofs.Xcdr1Turns.{header-got, header-no-id, header-n
 use borrow.Author.Needs.{needs}
 use Rattle.lookup.proofs.xcdr1.read_header.Statement.{statement}
 use Rattle.lookup.proofs.xcdr1.read_header.Tie as tie
-use Rattle.lookup.proofs.xcdr1.read_header.Reads as reads
-use Rattle.lookup.proofs.xcdr1.read_header.Lts as lts
-use Rattle.lookup.proofs.xcdr1.id.Reads as id-reads
-use Rattle.wire.proofs.number.read_number.Reads as read-number-reads
 
--- src/xcdr1.rt:31:9
 read-number-requires : tie.Need-read-number-requires
 read-number-requires c κs = search needs
 
--- src/xcdr1.rt:33:23
 enum-known-first : tie.Need-enum-known-first
 enum-known-first c = search needs
 
--- src/xcdr1.rt:34:21
 enum-known-first-2 : tie.Need-enum-known-first-2
 enum-known-first-2 c = search needs
 
--- src/xcdr1.rt:35:17
 read-number-requires-2 : tie.Need-read-number-requires-2
 read-number-requires-2 c κs = search needs
 
--- src/xcdr1.rt:37:31
 enum-known-second : tie.Need-enum-known-second
 enum-known-second c = search needs
 
--- src/xcdr1.rt:38:29
 enum-known-second-2 : tie.Need-enum-known-second-2
 enum-known-second-2 c = search needs
 
--- src/xcdr1.rt:38:55
 id-requires : tie.Need-id-requires
 id-requires c κs = search needs
 
--- src/xcdr1.rt:28:1
 returns : tie.Need-returns
 returns c = search (needs, header-got, header-no-id, header-no-length)
 
--- src/xcdr1.rt:28:1
 returns-2 : tie.Need-returns-2
 returns-2 c = search (needs, header-got, header-no-id, header-no-length)
 
--- src/xcdr1.rt:28:1
 returns-3 : tie.Need-returns-3
 returns-3 c = search (needs, header-got, header-no-id, header-no-length)
 

@@ -2,44 +2,31 @@ use Rattle.lookup.proofs.Xcdr1Turns.{turn-ended, turn-found, turn-found
 use borrow.Author.Needs.{needs}
 use Rattle.lookup.proofs.xcdr1.turn.Statement.{statement}
 use Rattle.lookup.proofs.xcdr1.turn.Tie as tie
-use Rattle.lookup.proofs.xcdr1.turn.Reads as reads
-use Rattle.lookup.proofs.xcdr1.turn.Lts as lts
-use Rattle.lookup.proofs.search.past_value.Reads as past-value-reads
-use Rattle.lookup.proofs.xcdr1.read_header.Reads as read-header-reads
 
--- src/xcdr1.rt:49:9
 read-header-requires : tie.Need-read-header-requires
 read-header-requires c κs = search needs
 
--- src/xcdr1.rt:51:23
 enum-known-head : tie.Need-enum-known-head
 enum-known-head c = search needs
 
--- src/xcdr1.rt:52:21
 enum-known-head-2 : tie.Need-enum-known-head-2
 enum-known-head-2 c = search needs
 
--- src/xcdr1.rt:55:21
 returns : tie.Need-returns
 returns c = search (needs, turn-ended, turn-found, turn-found-end, turn-past, turn-short)
 
--- src/xcdr1.rt:57:17
 returns-2 : tie.Need-returns-2
 returns-2 c = search (needs, turn-ended, turn-found, turn-found-end, turn-past, turn-short)
 
--- src/xcdr1.rt:60:17
 returns-3 : tie.Need-returns-3
 returns-3 c = search (needs, turn-ended, turn-found, turn-found-end, turn-past, turn-short)
 
--- src/xcdr1.rt:62:13
 past-value-requires : tie.Need-past-value-requires
 past-value-requires c κs = search needs
 
--- src/xcdr1.rt:45:1
 returns-4 : tie.Need-returns-4
 returns-4 c = search (needs, turn-ended, turn-found, turn-found-end, turn-past, turn-short)
 
--- src/xcdr1.rt:45:1
 returns-5 : tie.Need-returns-5
 returns-5 c = search (needs, turn-ended, turn-found, turn-found-end, turn-past, turn-short)
 

@@ -2,22 +2,16 @@ use Rattle.lookup.proofs.Xcdr2Turns.{fixed-last}
 use borrow.Author.Needs.{needs}
 use Rattle.lookup.proofs.xcdr2.fixed_length.Statement.{statement}
 use Rattle.lookup.proofs.xcdr2.fixed_length.Tie as tie
-use Rattle.lookup.proofs.xcdr2.fixed_length.Reads as reads
-use Rattle.lookup.proofs.xcdr2.fixed_length.Lts as lts
 
--- src/xcdr2.rt:26:1
 returns : tie.Need-returns
 returns c = search needs
 
--- src/xcdr2.rt:26:1
 returns-2 : tie.Need-returns-2
 returns-2 c = search needs
 
--- src/xcdr2.rt:26:1
 returns-3 : tie.Need-returns-3
 returns-3 c = search needs
 
--- src/xcdr2.rt:26:1
 returns-4 : tie.Need-returns-4
 returns-4 c = search (needs, fixed-last)
 

@@ -2,22 +2,16 @@ use borrow.Author.Needs.{needs}
 use Rattle.lookup.proofs.Xcdr2Turns.{unit-at, unit-last}
 use Rattle.lookup.proofs.xcdr2.unit.Statement.{statement}
 use Rattle.lookup.proofs.xcdr2.unit.Tie as tie
-use Rattle.lookup.proofs.xcdr2.unit.Reads as reads
-use Rattle.lookup.proofs.xcdr2.unit.Lts as lts
 
--- src/xcdr2.rt:39:1
 returns : tie.Need-returns
 returns c = search (needs, unit-at, unit-last)
 
--- src/xcdr2.rt:39:1
 returns-2 : tie.Need-returns-2
 returns-2 c = search (needs, unit-at, unit-last)
 
--- src/xcdr2.rt:39:1
 returns-3 : tie.Need-returns-3
 returns-3 c = search (needs, unit-at, unit-last)
 
--- src/xcdr2.rt:39:1
 returns-4 : tie.Need-returns-4
 returns-4 c = search (needs, unit-at, unit-last)
 

@@ -2,36 +2,25 @@ use Rattle.values.proofs.Headers.{count-short, count-sequence, count-ar
 use borrow.Author.Needs.{needs}
 use Rattle.values.proofs.header.count_from.Statement.{statement}
 use Rattle.values.proofs.header.count_from.Tie as tie
-use Rattle.values.proofs.header.count_from.Reads as reads
-use Rattle.values.proofs.header.count_from.Lts as lts
-use Rattle.wire.proofs.dheader.contents_at.Reads as contents-at-reads
-use Rattle.wire.proofs.number.read_number.Reads as read-number-reads
 
--- src/header.rt:22:11
 contents-at-requires : tie.Need-contents-at-requires
 contents-at-requires c κs = search needs
 
--- src/header.rt:23:25
 enum-known-x : tie.Need-enum-known-x
 enum-known-x c = search needs
 
--- src/header.rt:24:27
 enum-known-c : tie.Need-enum-known-c
 enum-known-c c = search needs
 
--- src/header.rt:26:17
 read-number-requires : tie.Need-read-number-requires
 read-number-requires c κs = search needs
 
--- src/header.rt:26:17
 returns : tie.Need-returns
 returns c = search (needs, count-sequence)
 
--- src/header.rt:12:1
 returns-2 : tie.Need-returns-2
 returns-2 c = search (needs, count-short, count-sequence)
 
--- src/header.rt:12:1
 returns-3 : tie.Need-returns-3
 returns-3 c = search (needs, count-sequence, count-array)
 

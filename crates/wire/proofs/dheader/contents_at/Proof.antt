@@ -2,31 +2,22 @@ use Rattle.wire.proofs.Contents.{contents-plain, contents-first, conten
 use borrow.Author.Needs.{needs}
 use Rattle.wire.proofs.dheader.contents_at.Statement.{statement}
 use Rattle.wire.proofs.dheader.contents_at.Tie as tie
-use Rattle.wire.proofs.dheader.contents_at.Reads as reads
-use Rattle.wire.proofs.dheader.contents_at.Lts as lts
-use Rattle.wire.proofs.dheader.dheader.Reads as dheader-reads
 
--- src/dheader.rt:45:53
 enum-told : tie.Need-enum-told
 enum-told c = search needs
 
--- src/dheader.rt:46:31
 enum-told-2 : tie.Need-enum-told-2
 enum-told-2 c = search needs
 
--- src/dheader.rt:46:31
 dheader-requires : tie.Need-dheader-requires
 dheader-requires c κs = search needs
 
--- src/dheader.rt:44:9
 returns : tie.Need-returns
 returns c = search (needs, contents-plain, contents-first, contents-second)
 
--- src/dheader.rt:44:9
 returns-2 : tie.Need-returns-2
 returns-2 c = search (needs, contents-plain, contents-first, contents-second)
 
--- src/dheader.rt:39:1
 returns-3 : tie.Need-returns-3
 returns-3 c = search (needs, contents-plain, contents-first, contents-second)
 
