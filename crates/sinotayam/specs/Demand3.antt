@@ -10,7 +10,7 @@ use Rattle.table.specs.declared.rows.Row.{Row}
 use Rattle.sinotayam.specs.declared.answer.Answer.{Answer}
 use Rattle.sinotayam.specs.Answer.{Result, codeOf, tableOf}
 
--- the numbers that are left for data of a type that the check passes: those of a reading, and "10 TooLong: message over 65,536 bytes (65,532
+-- the numbers that are left for data of a type that the check passes: those of a reading, and 10, "TooLong: message over 65,536 bytes (65,532
 -- bytes after the four-byte header)"
 pub data CallNumber (s : List ℕ) : ℕ → Type 0 where
   of-reading : {n : ℕ} → ReadingNumber n → CallNumber s n

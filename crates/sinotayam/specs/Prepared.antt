@@ -17,7 +17,7 @@ use Rattle.sinotayam.specs.Entry.{refusedIf, messageBy, dataBy}
 unfoldable pub hasPlaces : List ℕ → List ℕ → Bool
 hasPlaces book lent = ltb (typeCount book) (length lent)
 
--- the number of preparing: "8 BadBook", 13 where the lent index is too short, else 0
+-- the number of preparing: 8, "BadBook", 13 where the lent index is too short, else 0
 unfoldable pub prepareOf : List ℕ → List ℕ → ℕ
 prepareOf book lent = pick (bookOk book) (pick (hasPlaces book lent) 0 13) 8
 
