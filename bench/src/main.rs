@@ -21,6 +21,7 @@ mod book;
 mod messages;
 mod oracle;
 mod port;
+mod trucks;
 mod write;
 #[allow(dead_code, unused)]
 pub mod xtypes;
@@ -58,8 +59,8 @@ unsafe fn stack_of(_: extern "C" fn(*mut Side), _: *mut Side) -> u64 {
     panic!("bench: the stack of x86-64 code alone is measured")
 }
 
-/// The rows of a message, after a check that the port and the crate agree on it.
-fn rows_of(c: &Case) -> usize {
+/// The rows of a message, after a check that the port and the crate agree on it; or the number that both refuse it with.
+fn rows_of(c: &Case) -> Result<usize, u8> {
     let (mut table, mut again) = (vec![!0; 4 * 20_000], vec![!0; 4 * 20_000]);
     let mut index = [0; 65];
     let answer = port::read(&c.book, c.root, &c.message, &mut table);
@@ -71,8 +72,10 @@ fn rows_of(c: &Case) -> usize {
     if let Some(why) = agree::differs(&said, answer as u8, &rows, &c.message) {
         panic!("{}: {why}", c.name);
     }
-    assert!(answer as u8 == 0, "{}: answer {}", c.name, answer as u8);
-    rows.len()
+    match answer as u8 {
+        0 => Ok(rows.len()),
+        number => Err(number),
+    }
 }
 
 fn whole(c: &'static Case, name: &'static str, rows: usize) -> Side {
@@ -96,14 +99,24 @@ fn its_own(c: &'static Case) -> Side {
     Side { message: c.name, name: "crate", call: Box::new(call) }
 }
 
+fn of_message(c: &'static Case, rows: usize) -> [Side; 3] {
+    println!("{}\tbytes\t{}\n{}\trows\t{rows}\n{}\tbook\t{}", c.name, c.message.len(), c.name, c.name, c.book.len());
+    [its_own(c), prepared(c, "prepared", rows), whole(c, "whole", rows)]
+}
+
 fn sides() -> Vec<Side> {
     let mut all = vec![Side { message: "-", name: "empty", call: Box::new(|| drop(black_box(0))) }];
     for c in Vec::leak(messages::all()) {
-        let rows = rows_of(c);
-        println!("{}\tbytes\t{}\n{}\trows\t{rows}\n{}\tbook\t{}", c.name, c.message.len(), c.name, c.name, c.book.len());
-        all.extend([its_own(c), prepared(c, "prepared", rows), whole(c, "whole", rows)]);
+        let rows = rows_of(c).unwrap_or_else(|number| panic!("{}: answer {number}", c.name));
+        all.extend(of_message(c, rows));
         if rows <= APP {
             all.push(prepared(c, "prepared, 2048 rows", APP));
+        }
+    }
+    for c in Vec::leak(trucks::all()) {
+        match rows_of(c) {
+            Ok(rows) => all.extend(of_message(c, rows)),
+            Err(number) => println!("{}\trefused\t{number}", c.name),
         }
     }
     all

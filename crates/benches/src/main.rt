@@ -1,7 +1,7 @@
 // Document 01's bench examples, 1 to 13, run through the library, and each number of its table reached (4 never is).
 // The file stdout is written from document 01.
 use libc::STDOUT_FILENO;
-use sinotayam::answer::Number;
+use sinotayam::answer::Status;
 
 const IDENTIFIER: [u8; 2] = *b"\x00\x01";
 
@@ -266,8 +266,8 @@ fn data_lengths() {
     data(b"13, 65533 bytes of data", &more);
 }
 
-// A number as it is printed.
-fn number(n: Number) {
+// A status by its number.
+fn print_status(n: Status) {
     code(n.code());
 }
 
@@ -287,7 +287,7 @@ fn broken() {
 fn prepared_in(name: &[u8], index: &mut [u32]) {
     let mut table = [0u64; 8192];
     title(name);
-    number(sinotayam::prepared::prepare(&INT32, index));
+    print_status(sinotayam::prepared::prepare(&INT32, index));
     let a = sinotayam::read_prepared(
         &INT32,
         index,
@@ -325,7 +325,7 @@ fn texts() {
 }
 
 fn text(table: &[u64], row: usize, s: &[u8]) {
-    number(sinotayam::texts::text_number(table, row, s));
+    print_status(sinotayam::texts::text_status(table, row, s));
     title(sinotayam::texts::text(table, row, s));
 }
 

@@ -1,5 +1,5 @@
-// The type book: judged, indexed, and read as types. Every function takes any bytes and any place in them, past the end all is 0; but
-// `byte_there`, `pair_there` and `quad_there` take a place whose bytes are there.
+// The type book: whether it is right, where its types stand, and what a type, a member and a label say, read where they stand. Its bytes may be any,
+// and past the end all is 0. What asks more of its caller says so: the functions `.._there` take a place whose bytes are there.
 pub mod bytes;
 pub mod index;
 pub mod judge;

@@ -29,10 +29,10 @@ fn line(table: &[u64], i: usize) {
 pub fn answer(a: Answer, table: &[u64]) -> usize
     ensures { λ r. ⌜ r ≡ a .rows ⌝ }
 {
-    let code = a.number;
+    let status = a.status;
     let rows = a.rows;
     text(b"answer ");
-    number(code.code() as u64);
+    number(status.code() as u64);
     text(b" rows ");
     number(rows as u64);
     text(b"\n");

@@ -12,11 +12,13 @@ use mir.Val.{toZ}
 use borrow.Author.Tests.{le-leb, lt-leb, eq-eqb, ne-eqb}
 use Rattle.ground.specs.Choice.{among}
 use Rattle.table.specs.declared.rows.Row.{Row}
-use Rattle.table.specs.Rows.{rowAt, Filled}
+use Rattle.table.specs.Rows.{rowAt}
+use Rattle.table.specs.Code.Rows.{Filled}
 use Rattle.table.proofs.Filling.{filled-first, filled-rest}
 use Rattle.choice.specs.declared.discriminator.Discriminator.{Discriminator}
 use Rattle.choice.specs.declared.discriminator.Discriminator.the-variants.{Absent, Unfit, Value}
-use Rattle.choice.specs.Discriminator.{discriminatorIn, enumIn, discriminatorOf, discriminatorAt}
+use Rattle.choice.specs.Discriminator.{discriminatorIn, enumIn, discriminatorOf}
+use Rattle.choice.specs.Code.Discriminator.{discriminatorAt}
 
 module _ (r : Row) where
   abbrev fits : Bool

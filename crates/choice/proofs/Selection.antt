@@ -51,18 +51,18 @@ module _ (b : List ℕ) (at : ℕ) where
   value-none kind e h = rw (← e, ne-eqb kind 21 h)
 
   module _ (kind : ℕ) (is : kind ≡ typeAt b at .kind) (enum : kind ≡ 21) (f : Found) (found : told b f ≡ firstDefault (typeAt b at .members)) where
-    chosen : defaultValue (typeAt b at) ≡ labelOf (orElse (told b f) (firstOf (typeAt b at .members)))
+    value-is : defaultValue (typeAt b at) ≡ labelOf (orElse (told b f) (firstOf (typeAt b at .members)))
     unfolding defaultValue
-    chosen = rw (← is, eq-eqb kind 21 enum, ← found)
+    value-is = rw (← is, eq-eqb kind 21 enum, ← found)
 
     pub value-default : (p : ℕ) → f ≡ At p → (z : ℤ) → z ≡ getD (memberAt b p .labels) 0 (pos 0) → z ≡ defaultValue (typeAt b at)
     unfolding told orElse labelOf
-    value-default p e z g = g ∙ label-first (memberAt b p .labels) ∙ sym (chosen ∙ ap (λ (x : Found). labelOf (orElse (told b x) (firstOf (typeAt b at .members)))) e)
+    value-default p e z g = g ∙ label-first (memberAt b p .labels) ∙ sym (value-is ∙ ap (λ (x : Found). labelOf (orElse (told b x) (firstOf (typeAt b at .members)))) e)
 
     module _ (e : f ≡ Nothing) (ms : Run) (s : Started b at ms) where
       rest : defaultValue (typeAt b at) ≡ labelOf (firstOf (listed b ms))
       unfolding told orElse
-      rest = chosen ∙ ap (λ (x : Found). labelOf (orElse (told b x) (firstOf (typeAt b at .members)))) e ∙ ap (λ (l : List Member). labelOf (firstOf l)) (sym (s .is))
+      rest = value-is ∙ ap (λ (x : Found). labelOf (orElse (told b x) (firstOf (typeAt b at .members)))) e ∙ ap (λ (l : List Member). labelOf (firstOf l)) (sym (s .is))
 
       pub value-first : 0 < ms .left → (z : ℤ) → z ≡ getD (memberAt b (ms .at) .labels) 0 (pos 0) → z ≡ defaultValue (typeAt b at)
       unfolding firstOf labelOf
@@ -73,8 +73,8 @@ module _ (b : List ℕ) (at : ℕ) where
       value-zero h = sym (rest ∙ ap (λ (l : List Member). labelOf (firstOf l)) (run-none b ms h))
 
 -- a signed result is handed on by its bits
-pub handed : (z y : ℤ) → SFits w32 z → z ≡ y → toZ w32 (ofZ w32 z) ≡ y
-handed z y f e = toZ-ofZ {w = w32} {z = z} f ∙ e
+pub same-bits : (z y : ℤ) → SFits w32 z → z ≡ y → toZ w32 (ofZ w32 z) ≡ y
+same-bits z y f e = toZ-ofZ {w = w32} {z = z} f ∙ e
 
 -- by the default value of a discriminator
 module _ (b index : List ℕ) (p : ℕ) (ms : List Member) (k : ℕ) (is : k ≡ memberAt b p .construct) where
@@ -90,18 +90,18 @@ module _ (b index : List ℕ) (p : ℕ) (ms : List Member) (k : ℕ) (is : k ≡
 
 -- the three ways, one after the other; a signed argument is handed on by its bits
 module _ (types : List BookType) (b : List ℕ) (disc : Member) (ms : List Member) (d : ℤ) (fits : SFits w32 d) (f : Found) (by-bits : told b f ≡ firstWith (toZ w32 (ofZ w32 d)) ms) where
-  first : told b f ≡ firstWith d ms
-  first = by-bits ∙ ap (λ (z : ℤ). firstWith z ms) (toZ-ofZ {w = w32} {z = d} fits)
+  by-label : told b f ≡ firstWith d ms
+  by-label = by-bits ∙ ap (λ (z : ℤ). firstWith z ms) (toZ-ofZ {w = w32} {z = d} fits)
 
   pub select-first : (q : ℕ) → f ≡ At q → told b (At q) ≡ selectedOf types disc ms d
   unfolding selectedOf orElse told
-  select-first q e = rw (← first, e)
+  select-first q e = rw (← by-label, e)
 
   module _ (e : f ≡ Nothing) (g : Found) (last : told b g ≡ lastDefault ms) where
     pub select-last : (q : ℕ) → g ≡ At q → told b (At q) ≡ selectedOf types disc ms d
     unfolding selectedOf orElse told
-    select-last q h = rw (← first, e, ← last, h)
+    select-last q h = rw (← by-label, e, ← last, h)
 
     pub select-default : g ≡ Nothing → (h : Found) → told b h ≡ byDefaultValue types disc ms → told b h ≡ selectedOf types disc ms d
     unfolding selectedOf orElse told
-    select-default k h w = rw (← first, e, ← last, k) w
+    select-default k h w = rw (← by-label, e, ← last, k) w

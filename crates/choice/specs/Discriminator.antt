@@ -1,12 +1,11 @@
 -- What a union's discriminator says.
-use Prim.Native.Nat.{ℕ, _+_, _-_, _%_, _^_}
+use Prim.Native.Nat.{_%_, _^_}
 use mathlib.Core.List.{List, [], _∷_}
-use lib.Dec.{eqb, leb}
+use lib.Dec.{eqb}
 use mir.Syntax.{w32}
 use mir.Val.{toZ}
 use Rattle.ground.specs.Choice.{pick, among}
 use Rattle.table.specs.declared.rows.Row.{Row}
-use Rattle.table.specs.Rows.{rowAt}
 use Rattle.choice.specs.declared.discriminator.Discriminator.{Discriminator}
 use Rattle.choice.specs.declared.discriminator.Discriminator.the-variants.{Absent, Unfit, Value}
 
@@ -24,11 +23,3 @@ enumIn (r ∷ rs) = discriminatorIn r
 unfoldable pub discriminatorOf : List Row → Discriminator
 discriminatorOf [] = Absent
 discriminatorOf (r ∷ rs) = pick (eqb (r .kind) 21) (enumIn rs) (discriminatorIn r)
-
--- the same, of rows n to m - 1 of a table
-unfoldable pub discriminatorAt : List ℕ → ℕ → ℕ → Discriminator
-discriminatorAt t n m =
-    pick (leb m n) Absent
-    (pick (eqb (rowAt t n .kind) 21)
-    (pick (eqb (m - n) 1) Unfit (discriminatorIn (rowAt t (n + 1))))
-    (discriminatorIn (rowAt t n)))

@@ -1,2 +1,3 @@
 pub mod Discriminator
 pub mod Select
+pub mod Code

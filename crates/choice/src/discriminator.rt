@@ -1,6 +1,7 @@
 // The discriminator, read back from the rows that it left in the table.
 ghost use mathlib.Core.Path.{_≡_};
-ghost use Rattle.choice.specs.Discriminator.{discriminatorIn, discriminatorAt};
+ghost use Rattle.choice.specs.Discriminator.{discriminatorIn};
+ghost use Rattle.choice.specs.Code.Discriminator.{discriminatorAt};
 use table::rows::Row;
 use table::rows::row_at;
 

@@ -11,7 +11,8 @@ use Rattle.ground.specs.Choice.{pick}
 use Rattle.book.specs.Types.{BookType, Member, typesOf, noType, typeNo}
 use Rattle.book.specs.Rules.{isList, isEnum, bookOk}
 use Rattle.book.proofs.Good.{GoodMember, Each, type-good, type-facts, member-facts, union-first}
-use Rattle.fit.specs.Fit.{OneOf, memberTypes, linksOf}
+use Rattle.shape.specs.Shape.{OneOf}
+use Rattle.fit.specs.Fit.{memberTypes, linksOf}
 use Rattle.fit.proofs.Exact.{Linked, below-or-not}
 use Rattle.fit.proofs.Settling.{Right}
 

@@ -12,49 +12,51 @@ use Rattle.book.specs.Types.{BookType, typeCount, typesOf, typeNo}
 use Rattle.book.specs.Places.{typeAt, typesBy, PlaceOf, indexCount, indexed}
 use Rattle.book.specs.Rules.{bookOk}
 use Rattle.book.proofs.Good.{count-good, index-good}
-use Rattle.fit.specs.Check.{chainOf, chainsOf, Measured, fits, checkOf}
+use Rattle.fit.specs.Fit.{Clause, checkClauses}
+use Rattle.fit.specs.Check.{checkOf}
+use Rattle.fit.specs.Code.Check.{chainOf, chainsOf, Measured, fits}
 
 -- the root, and its chain by those of the lower records
-module _ (b index : List ℕ) (root p kind : ℕ) (o : Bool) (at : PlaceOf b index root p) (is : kind ≡ typeAt b p .kind) (opened : o ≡ opens kind) where
-  pub fits-closed : not o ≡ true → false ≡ fits (typesBy b index) root
+module _ (clauses : List Clause) (b index : List ℕ) (root p kind : ℕ) (o : Bool) (at : PlaceOf b index root p) (is : kind ≡ typeAt b p .kind) (opened : o ≡ opens kind) where
+  pub fits-closed : not o ≡ true → false ≡ fits clauses (typesBy b index) root
   unfolding fits
   fits-closed h = rw (← at .is, ← is, ← opened, not-true o h)
 
-  pub fits-open : (l u : List ℕ) (m : ℕ) → not o ≡ false → Measured (typesBy b index) root l u → m ≡ chainOf (typesBy b index) (take (root - 0) u) (typeAt b p) → leb m 16 ≡ fits (typesBy b index) root
+  pub fits-open : (l u : List ℕ) (m : ℕ) → not o ≡ false → Measured clauses (typesBy b index) root l u → m ≡ chainOf clauses (typesBy b index) (take (root - 0) u) (typeAt b p) → leb m 16 ≡ fits clauses (typesBy b index) root
   unfolding fits
   fits-open l u m h below e =
       let j : root - 0 ≡ root = omega arith in
-      let own : m ≡ chainOf (typesBy b index) (chainsOf (typesBy b index) root) (typeNo (typesBy b index) root) = rw (j, below .is, at .is) at e in
+      let own : m ≡ chainOf clauses (typesBy b index) (chainsOf clauses (typesBy b index) root) (typeNo (typesBy b index) root) = rw (j, below .is, at .is) at e in
       let kind : opens (typeNo (typesBy b index) root .kind) ≡ true = rw (← at .is, ← is, ← opened) (not-false o h) in
       rw (kind, own)
 
 -- "Otherwise 8, 9, then 16."
-module _ (b : List ℕ) (root : ℕ) (good : Bool) (judged : good ≡ bookOk b) where
+module _ (b : List ℕ) (root : ℕ) (good : Bool) (ok : good ≡ bookOk b) where
   pub check-book : not good ≡ true → 8 ≡ checkOf b root
   unfolding checkOf
-  check-book h = rw (← judged, not-true good h)
+  check-book h = rw (← ok, not-true good h)
 
   module _ (fine : not good ≡ false) (n : ℕ) (count : n ≡ typeCount b) where
     pub check-root : n ≤ root → 9 ≡ checkOf b root
     unfolding checkOf
-    check-root h = rw (← judged, not-false good fine, ← count, le-ltb root n h)
+    check-root h = rw (← ok, not-false good fine, ← count, le-ltb root n h)
 
     pub root-small : root < n → root < 64
-    root-small h = omega (arith, count-good b (sym judged ∙ not-false good fine) .1)
+    root-small h = omega (arith, count-good b (sym ok ∙ not-false good fine) .1)
 
     -- the types of the book are those that its whole index finds
     module _ (low : root < n) (l u : List ℕ) (k : ℕ) (long : length l ≡ 64) (all : k ≡ indexCount b (length l)) (written : u ≡ indexed b l)
-        (r : Bool) (is : r ≡ fits (typesBy b (take (k - 0) u)) root) where
-      same : r ≡ fits (typesOf b) root
+        (r : Bool) (is : r ≡ fits checkClauses (typesBy b (take (k - 0) u)) root) where
+      same : r ≡ fits checkClauses (typesOf b) root
       same =
           let m : k - 0 ≡ indexCount b (length l) = omega arith in
-          let e : typesBy b (take (k - 0) u) ≡ typesOf b = rw (m, written) (index-good b l (sym judged ∙ not-false good fine) (omega arith)) in
-          is ∙ ap (λ (types : List BookType). fits types root) e
+          let e : typesBy b (take (k - 0) u) ≡ typesOf b = rw (m, written) (index-good b l (sym ok ∙ not-false good fine) (omega arith)) in
+          is ∙ ap (λ (types : List BookType). fits checkClauses types root) e
 
       pub check-fit : r ≡ true → 0 ≡ checkOf b root
       unfolding checkOf
-      check-fit h = rw (← judged, not-false good fine, ← count, lt-ltb root n low, ← same, h)
+      check-fit h = rw (← ok, not-false good fine, ← count, lt-ltb root n low, ← same, h)
 
       pub check-unfit : r ≡ false → 16 ≡ checkOf b root
       unfolding checkOf
-      check-unfit h = rw (← judged, not-false good fine, ← count, lt-ltb root n low, ← same, h)
+      check-unfit h = rw (← ok, not-false good fine, ← count, lt-ltb root n low, ← same, h)

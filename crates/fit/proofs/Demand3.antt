@@ -1,33 +1,29 @@
 -- DEMAND 3, AND THE CHECK BOTH WAYS. The statements cite only definitions of `specs/`: `checkOf` and `Checked` say what the check gives back,
 -- `reading` is the reader's written rules, `Untroubled` what is left of them.
 use Prim.Native.Nat.{ℕ}
-use mathlib.Core.Path.{_≡_, refl, sym, _∙_}
+use mathlib.Core.Path.{_≡_, sym, _∙_}
 use mathlib.Core.Bool.{true}
-use mathlib.Core.List.{List, _∷_, _++_}
+use mathlib.Core.List.{List}
 use native.Mathlib.Omega.{arith}
 use lib.Dec.{ltb}
-use lib.ListN.{length}
 use borrow.Author.Tests.{ltb-true, ltb-false}
 use Rattle.ground.proofs.Tests.{apart}
 use Rattle.wire.specs.declared.settings.Settings.{Settings}
 use Rattle.wire.specs.Place.{cursorAt}
-use Rattle.book.specs.Types.{BookType, typeCount, typesOf, typeNo}
+use Rattle.book.specs.Types.{BookType, typeCount, typesOf}
 use Rattle.book.specs.Rules.{bookOk}
-use Rattle.table.specs.declared.rows.Row.{Row}
 use Rattle.table.specs.Outcome.{Outcome, numberOf, refusalNumber, rowsOf}
 use Rattle.reader.specs.Nested.{reading}
-use Rattle.fit.specs.Fit.{Passes}
-use Rattle.fit.specs.Shape as shape
-use Rattle.fit.specs.Shape.{Value, Opened, Elements, isScalar}
-use Rattle.fit.specs.Walk.{span, direct, InOrder}
-use Rattle.fit.specs.Check.{fits, checkOf}
-use Rattle.fit.specs.Demand3.{Checked, fit, bad-book, bad-root, unfit, finished-reading, too-few-bytes, invalid-data, full-table, absent-discriminator, Untroubled}
+use Rattle.fit.specs.Fit.{checkClauses, Passes}
+use Rattle.shape.specs.Shape.{Opened}
+use Rattle.fit.specs.Check.{checkOf}
+use Rattle.fit.specs.Code.Check.{fits}
+use Rattle.fit.specs.Demand3.{Checked, fit, bad-book, bad-root, unfit, finished-reading, too-few-bytes, invalid-data, full-table, absent-discriminator, AreBytes, Untroubled}
 use Rattle.fit.proofs.Ends.{Ends, finished, wanting, broken, by-test}
 use Rattle.fit.proofs.Scalars.{Allowed, bad-data, no-room, no-discriminator}
 use Rattle.fit.proofs.Settling.{nested-settles}
 use Rattle.fit.proofs.Exact.{fits-passes, passes-fits}
 use Rattle.fit.proofs.Books.{links-down, right-type}
-use Rattle.fit.proofs.Walking.{value-whole, beneath-order}
 
 -- THE CHECK'S NUMBER SAYS THIS, for any book and any root
 pub check-says : (book : List ℕ) (root : ℕ) → Checked book root (checkOf book root)
@@ -36,11 +32,11 @@ check-says book root =
     let F : ℕ → Type 0 = Checked book root in
     by-test F (bookOk book) (λ good.
     by-test F (ltb root (typeCount book)) (λ low.
-    by-test F (fits (typesOf book) root) (λ e. fit good (ltb-true root (typeCount book) low) (fits-passes (typesOf book) root e)) (λ e.
-    unfit good (ltb-true root (typeCount book) low) (λ p. apart (sym e ∙ passes-fits (typesOf book) (links-down book good) root p))))
+    by-test F (fits checkClauses (typesOf book) root) (λ e. fit good (ltb-true root (typeCount book) low) (fits-passes checkClauses (typesOf book) root e)) (λ e.
+    unfit good (ltb-true root (typeCount book) low) (λ p. apart (sym e ∙ passes-fits checkClauses (typesOf book) (links-down book good) root p))))
     (λ out. bad-root good (ltb-false root (typeCount book) out))) (λ bad. bad-book bad)
 
-passing : {book : List ℕ} {root n : ℕ} → Checked book root n → n ≡ 0 → (bookOk book ≡ true) × Passes (typesOf book) root
+passing : {book : List ℕ} {root n : ℕ} → Checked book root n → n ≡ 0 → (bookOk book ≡ true) × Passes checkClauses (typesOf book) root
 passing (fit good low p) e = (good, p)
 passing (bad-book bad) e = absurd (omega arith)
 passing (bad-root good out) e = absurd (omega arith)
@@ -55,34 +51,8 @@ untroubled (broken no-room) = record { number = full-table; rows = λ e. absurd 
 untroubled (broken no-discriminator) = record { number = absent-discriminator; rows = λ e. absurd (omega arith) }
 
 -- DEMAND 3: for every book and root that the check passes, all data, all settings and every room
-pub demand-3 : (book s : List ℕ) (set : Settings) (root room : ℕ) → checkOf book root ≡ 0 → Untroubled (typesOf book) s root (reading (typesOf book) s set root room)
+pub demand-3 : (book s : List ℕ) → AreBytes s → (set : Settings) (root room : ℕ) → checkOf book root ≡ 0 → Untroubled (typesOf book) s root (reading (typesOf book) s set root room)
 unfolding reading
-demand-3 book s set root room e =
+demand-3 book s bytes set root room e =
     let p = passing (check-says book root) e in
-    untroubled (nested-settles (typesOf book) s set (right-type book (p .0)) 16 root 0 (cursorAt 0 0) room (p .1 .kind) (p .1 .fit))
-
--- OF A FINISHED READING'S ROWS, at every depth (each value in the shape is again one of these):
-module _ {types : List BookType} {s : List ℕ} {ty id : ℕ} where
-  -- b of an opened row is the number of rows beneath it
-  pub rows-beneath : {r : Row} {rs : List Row} → Opened types s ty id (r ∷ rs) → r .b ≡ length rs
-  rows-beneath (shape.opened x) = refl
-
-  -- the rows directly under a structure or union each belong to a member of its type, in the type's order and at most once
-  pub rows-in-order : {r : Row} {rs : List Row} → Opened types s ty id (r ∷ rs) → (typeNo types ty .kind ≡ 21 → ⊥) → (n : ℕ) → InOrder types (typeNo types ty .members) (direct n rs)
-  rows-in-order (shape.opened x) e n = beneath-order x e n
-
-  -- the table can be walked: whatever rows come after a value, its end is found from its own
-  pub value-ends : {rs : List Row} → Value types s ty id rs → (more : List Row) → span (rs ++ more) ≡ length rs
-  value-ends v more = value-whole v .ends more
-
-  -- an array has exactly its stated size
-  pub array-size : {r : Row} {rs : List Row} → Value types s ty id (r ∷ rs) → typeNo types ty .kind ≡ 26 → (r .b ≡ typeNo types ty .bound) × Elements types s (typeNo types ty .element) (typeNo types ty .bound) 0 rs
-  unfolding isScalar
-  array-size (shape.one (shape.scalar a b n)) e = absurd (apart (rw e at n))
-  array-size (shape.one (shape.text8 start n z i)) e = absurd (omega arith)
-  array-size (shape.one (shape.text16 start n z i)) e = absurd (omega arith)
-  array-size (shape.one (shape.nested (shape.opened (shape.enum a b z f)))) e = absurd (omega arith)
-  array-size (shape.one (shape.nested (shape.opened (shape.structure z x)))) e = absurd (omega arith)
-  array-size (shape.one (shape.nested (shape.opened (shape.union v z q h d g o x)))) e = absurd (omega arith)
-  array-size (shape.sequence n z x) e = absurd (omega arith)
-  array-size (shape.array z x) e = (refl, x)
+    untroubled (nested-settles (typesOf book) s bytes set (right-type book (p .0)) 16 root 0 (cursorAt 0 0) room (p .1 .kind) (p .1 .fit))

@@ -11,6 +11,9 @@ use Rattle.wire.specs.declared.cursor.Place.{Place}
 use Rattle.wire.specs.declared.cursor.Place.the-variants as place
 use Rattle.wire.specs.declared.number.Number.{Number}
 use Rattle.wire.specs.declared.number.Number.the-variants as number
+use Rattle.wire.specs.declared.dheader.Contents.{Contents}
+use Rattle.wire.specs.declared.dheader.Contents.the-variants as contents
+use Rattle.wire.specs.Dheader.{afterContents}
 use Rattle.wire.specs.Place.{afterMove}
 use Rattle.wire.specs.Number.{afterNumber}
 use Rattle.table.specs.declared.rows.Row.{Row}
@@ -69,11 +72,16 @@ module _ {P : Refusal → Type 0} where
   ends-as wanting q = wanting
   ends-as (broken p) q = broken p
 
-  -- what follows a move, and what follows a number
+  -- what follows a move, contents, and a number
   pub ends-move : {R : List Row → Type 0} (p : Place) (next : Cursor → Outcome) → ((c : Cursor) → Ends R P (next c)) → Ends R P (afterMove short p next)
   unfolding afterMove
   ends-move (place.Short x) next h = wanting
   ends-move (place.At c) next h = h c
+
+  pub ends-contents : {R : List Row → Type 0} (g : Contents) (next : Cursor → ℕ → Outcome) → ((c : Cursor) (end : ℕ) → Ends R P (next c end)) → Ends R P (afterContents short g next)
+  unfolding afterContents
+  ends-contents (contents.Short x) next h = wanting
+  ends-contents (contents.Between c end) next h = h c end
 
   pub ends-number : {R : List Row → Type 0} (n : Number) (next : ℕ → Cursor → Outcome) → ((v : ℕ) (c : Cursor) → n ≡ number.Got v c → Ends R P (next v c)) → Ends R P (afterNumber short n next)
   unfolding afterNumber

@@ -1,25 +1,18 @@
 -- The check at work: types that it passes, one for each kind; types that fail by one clause alone; chains of 16 and 17; a diamond of 64 records,
--- whose paths no walk could follow one by one; example 1's book. And what the shape of rows rules out. All are computed from the definitions.
-use Prim.Native.Nat.{ℕ, zero, suc, _+_, _-_, _*_, _≤_}
-use mathlib.Core.Path.{_≡_, refl, sym, ap, _∙_}
+-- whose paths no walk could follow one by one; example 1's book. All are computed from the definitions.
+use Prim.Native.Nat.{ℕ, zero, suc, _+_, _-_}
+use mathlib.Core.Path.{_≡_, refl}
 use mathlib.Core.Bool.{Bool, true, not}
 use mathlib.Core.List.{List, [], _∷_, _++_}
-use native.Mathlib.Omega.{arith}
 use lib.ListN.{length}
 use Rattle.ground.specs.Choice.{every}
-use Rattle.kinds.specs.Kinds.{opens, storedOf, unsupportedMember, unsupportedElement, bitmaskStored, storedByBound}
+use Rattle.kinds.specs.Kinds.{opens, unsupportedMember, unsupportedElement, bitmaskStored, storedByBound}
 use Rattle.book.specs.Types.{BookType, Member, noIndex, default, bounded, labelsOf, memberOf, pastMember, membersOf, typeOf, pastType, typesFrom, typesOf, noType, typeNo}
 use Rattle.book.specs.Rules.{sizeOk, versionOk, typeCountOk, headOk, filled, recordLengthOk, kindOk, extensibilityOk, baseOk, boundFlagOk, codesOk, arrayBoundOk, boundOk, elementOk, memberCountOk, memberKindOk, someMemberOk, ownOk, boundsOk, countOk}
 use Rattle.book.specs.Rules.{otherId, idOk, linkOk, flagsOk, constructOk, labelCountOk, firstOfUnion, firstIdOk, firstKindOk, firstDefaultOk, firstLabelOk, memberOk, membersOk, typeOk, recordOk, recordsOk, bookOk}
-use Rattle.table.specs.declared.rows.Row.{Row}
-use Rattle.table.specs.Rows.{row}
-use Rattle.reader.specs.Value.{readAs}
-use Rattle.fit.specs.Fit.{memberTypes, linksOf, memberSupported, membersSupported, elementSupported, baseSupported, chooses, firstChooses, discriminatorFits}
-use Rattle.fit.specs.Check.{clausesMet, longestFrom, withOwn, chainOf, chainsOf, fits, checkOf}
-use Rattle.fit.specs.Shape.{Value, Opened, storedKind}
-use Rattle.fit.specs.Walk.{extent, span, direct, InOrder, none-left, without, with}
-use Rattle.fit.proofs.Demand3.{rows-beneath, rows-in-order, array-size}
-use Rattle.fit.proofs.Flat.{each-row}
+use Rattle.fit.specs.Fit.{memberTypes, linksOf, memberSupported, membersSupported, elementSupported, baseSupported, chooses, firstChooses, discriminatorFits, checkClauses, meets}
+use Rattle.fit.specs.Check.{checkOf}
+use Rattle.fit.specs.Code.Check.{longestFrom, withOwn, chainOf, chainsOf, fits}
 
 -- ---- types to try
 
@@ -58,11 +51,7 @@ bitmask n = record { kind = 19; extensibility = 0; base = 0; boundFlag = 1; boun
 
 -- the last type of a book as the root
 abbrev fitsLast : List BookType → Bool
-fitsLast types = fits types (length types - 1)
-
-abbrev tail : {A : Type 0} → List A → List A
-tail [] = []
-tail (x ∷ xs) = xs
+fitsLast types = fits checkClauses types (length types - 1)
 
 abbrev map : {A : Type 0} → (ℕ → A) → List ℕ → List A
 map f [] = []
@@ -136,7 +125,7 @@ examples =
     every fitsLast passing
     ∷ every failsLast failing
     -- what is unfit and not reached does no harm
-    ∷ fits (enum 5 ∷ plain 15 ∷ plain 4 ∷ structure (2 ∷ []) ∷ []) 3
+    ∷ fits checkClauses (enum 5 ∷ plain 15 ∷ plain 4 ∷ structure (2 ∷ []) ∷ []) 3
     -- a chain of 16 passes, of 17 fails; an enum is counted, and a list is not
     ∷ fitsLast (enum 4 ∷ nestedIn 0 15)
     ∷ failsLast (enum 4 ∷ nestedIn 0 16)
@@ -146,70 +135,8 @@ examples =
     ∷ []
 
 each-holds : every (λ b. b) examples ≡ true
-unfolding fits chainsOf chainOf withOwn longestFrom clausesMet memberTypes linksOf memberSupported membersSupported elementSupported baseSupported chooses firstChooses discriminatorFits opens unsupportedMember unsupportedElement bitmaskStored storedByBound bounded every typeNo noType
+unfolding fits chainsOf chainOf withOwn longestFrom meets checkClauses memberTypes linksOf memberSupported membersSupported elementSupported baseSupported chooses firstChooses discriminatorFits opens unsupportedMember unsupportedElement bitmaskStored storedByBound bounded every typeNo noType
 each-holds = refl
-
--- ---- what the shape rules out, for a structure of one INT32 member with id 0
-
-abbrev small : List BookType
-small = plain 4 ∷ structure (0 ∷ []) ∷ []
-
--- a row that tells one row too many beneath it
-wrong-count : (s : List ℕ) → Opened small s 1 0 (row 22 0 1 1 ∷ []) → ⊥
-wrong-count s o = let z : _≡_ {A = ℕ} 1 0 = rows-beneath o in omega arith
-
--- rows that no member is left for
-nothing-left : {types : List BookType} (rs : List Row) {qs : List Row} → InOrder types [] qs → qs ≡ rs → (length rs ≡ 0 → ⊥) → ⊥
-nothing-left rs none-left e n = n (ap length (sym e))
-
--- a member's row twice: the second belongs to no member
-twice : (s : List ℕ) (x y : ℕ) → Opened small s 1 0 (row 22 0 1 2 ∷ row 4 0 x 0 ∷ row 4 0 y 0 ∷ []) → ⊥
-unfolding direct span extent opens typeNo
-twice s x y o = go (rows-in-order o (λ e. omega arith) 2) refl
-  where
-    go : {qs : List Row} → InOrder small (member 0 0 ∷ []) qs → qs ≡ row 4 0 x 0 ∷ row 4 0 y 0 ∷ [] → ⊥
-    go none-left e = let z : _≡_ {A = ℕ} 0 2 = ap length e in omega arith
-    go (without more) e = nothing-left (row 4 0 x 0 ∷ row 4 0 y 0 ∷ []) more e (λ z. omega arith)
-    go (with i k more) e = nothing-left (row 4 0 y 0 ∷ []) more (ap tail e) (λ z. omega arith)
-
--- a member's row under another stored kind
-other-kind : (s : List ℕ) (x : ℕ) → Opened small s 1 0 (row 22 0 1 1 ∷ row 8 0 x 0 ∷ []) → ⊥
-unfolding direct span extent opens typeNo storedKind storedOf readAs
-other-kind s x o = go (rows-in-order o (λ e. omega arith) 1) refl
-  where
-    kindIn : List Row → ℕ
-    kindIn [] = 0
-    kindIn (r ∷ rs) = r .kind
-
-    go : {qs : List Row} → InOrder small (member 0 0 ∷ []) qs → qs ≡ row 8 0 x 0 ∷ [] → ⊥
-    go none-left e = let z : _≡_ {A = ℕ} 0 1 = ap length e in omega arith
-    go (without more) e = nothing-left (row 8 0 x 0 ∷ []) more e (λ z. omega arith)
-    go (with i k more) e = let z : _≡_ {A = ℕ} 4 8 = sym k ∙ ap kindIn e in omega arith
-
--- the rows of two members in the other order
-out-of-order : (s : List ℕ) (x y : ℕ) → Opened (plain 4 ∷ structure (0 ∷ 0 ∷ []) ∷ []) s 1 0 (row 22 0 1 2 ∷ row 4 1 x 0 ∷ row 4 0 y 0 ∷ []) → ⊥
-unfolding direct span extent opens typeNo
-out-of-order s x y o = go (rows-in-order o (λ e. omega arith) 2) refl
-  where
-    idIn : List Row → ℕ
-    idIn [] = 0
-    idIn (r ∷ rs) = r .id
-
-    go : {types : List BookType} {qs : List Row} → InOrder types (member 0 0 ∷ member 1 0 ∷ []) qs → qs ≡ row 4 1 x 0 ∷ row 4 0 y 0 ∷ [] → ⊥
-    go none-left e = let z : _≡_ {A = ℕ} 0 2 = ap length e in omega arith
-    go (with i k more) e = let z : _≡_ {A = ℕ} 0 1 = sym i ∙ ap idIn e in omega arith
-    go (without none-left) e = let z : _≡_ {A = ℕ} 0 2 = ap length e in omega arith
-    go (without (without more)) e = nothing-left (row 4 1 x 0 ∷ row 4 0 y 0 ∷ []) more e (λ z. omega arith)
-    go (without (with i k more)) e = nothing-left (row 4 0 y 0 ∷ []) more (ap tail e) (λ z. omega arith)
-
--- a text that ends one byte past the data
-text-outside : (s : List ℕ) → length s ≡ 2 → Opened (plain 16 ∷ structure (0 ∷ []) ∷ []) s 1 0 (row 22 0 1 1 ∷ row 16 0 2 1 ∷ []) → ⊥
-text-outside s e o = let z : 2 + 1 * 1 ≤ length s = each-row o 1 (omega arith) .text8 refl in omega arith
-
--- an array of three that tells two elements
-short-array : (s : List ℕ) (rs : List Row) → Value (plain 4 ∷ array 3 0 ∷ []) s 1 0 (row 25 0 4 2 ∷ rs) → ⊥
-unfolding typeNo
-short-array s rs v = let z : _≡_ {A = ℕ} 2 3 = array-size v refl .0 in omega arith
 
 -- ---- example 1's book, as bytes: BadBook, BadRoot, Unfit, passes
 
@@ -219,5 +146,5 @@ book1 =
     ∷ 0 ∷ 0x17 ∷ 0x16 ∷ 0 ∷ 0 ∷ 0 ∷ 0 ∷ 0 ∷ 0 ∷ 0 ∷ 0xFF ∷ 0xFF ∷ 0 ∷ 1 ∷ 0 ∷ 0 ∷ 0 ∷ 7 ∷ 0 ∷ 0 ∷ 0 ∷ 1 ∷ 0 ∷ []
 
 answers : map (checkOf book1) (0 ∷ 1 ∷ 2 ∷ []) ++ checkOf [] 0 ∷ [] ≡ 16 ∷ 0 ∷ 9 ∷ 8 ∷ []
-unfolding checkOf fits chainsOf chainOf withOwn longestFrom clausesMet memberTypes linksOf memberSupported membersSupported elementSupported baseSupported chooses firstChooses discriminatorFits opens unsupportedMember unsupportedElement bitmaskStored storedByBound bounded every typeNo noType labelsOf memberOf pastMember membersOf typeOf pastType typesFrom typesOf default sizeOk versionOk typeCountOk headOk filled recordLengthOk kindOk extensibilityOk baseOk boundFlagOk codesOk arrayBoundOk boundOk boundsOk elementOk memberCountOk memberKindOk someMemberOk countOk ownOk otherId idOk linkOk flagsOk constructOk labelCountOk firstOfUnion firstIdOk firstKindOk firstDefaultOk firstLabelOk memberOk membersOk typeOk recordOk recordsOk bookOk
+unfolding checkOf fits chainsOf chainOf withOwn longestFrom meets checkClauses memberTypes linksOf memberSupported membersSupported elementSupported baseSupported chooses firstChooses discriminatorFits opens unsupportedMember unsupportedElement bitmaskStored storedByBound bounded every typeNo noType labelsOf memberOf pastMember membersOf typeOf pastType typesFrom typesOf default sizeOk versionOk typeCountOk headOk filled recordLengthOk kindOk extensibilityOk baseOk boundFlagOk codesOk arrayBoundOk boundOk boundsOk elementOk memberCountOk memberKindOk someMemberOk countOk ownOk otherId idOk linkOk flagsOk constructOk labelCountOk firstOfUnion firstIdOk firstKindOk firstDefaultOk firstLabelOk memberOk membersOk typeOk recordOk recordsOk bookOk
 answers = refl

@@ -1,51 +1,24 @@
--- What a test of a kind says of it, by one computed test over the kinds in question. Assumes nothing.
+-- What a test of a kind says of it, by one computed test over the kinds in question: as what kind a type is read. Assumes nothing.
 use Prim.Native.Nat.{ℕ, _≤_}
-use mathlib.Core.Path.{_≡_, refl, sym, ap, _∙_}
+use mathlib.Core.Path.{_≡_, refl, sym, _∙_}
 use mathlib.Core.Bool.{Bool, true, false, not, _||_}
-use mathlib.Core.List.{List, [], _∷_}
+use mathlib.Core.List.{[], _∷_}
 use native.Mathlib.Omega.{arith}
-use lib.Dec.{eqb, T}
+use lib.Dec.{eqb, leb, leb→le, T}
 use borrow.Author.Tests.{eqb-true, ne-eqb, not-true}
-use Rattle.ground.specs.Choice.{pick, both, every, among, _‥_, within}
-use Rattle.ground.proofs.Tests.{apart, both-first, both-second}
+use Rattle.ground.specs.Choice.{pick, both, every, among}
+use Rattle.ground.proofs.Tests.{apart, both-right}
 use Rattle.ground.proofs.Between.{passes, between}
 use Rattle.book.specs.Types.{BookType, bounded}
-use Rattle.kinds.specs.Kinds.{isPrimitive, storedOf, opens, unsupportedMember, unsupportedElement, bitmaskStored, storedByBound}
+use Rattle.kinds.specs.Kinds.{isPrimitive, storedOf, opens, unsupportedMember, unsupportedElement, bitmaskStored}
 use Rattle.reader.specs.Value.{readAs}
+use Rattle.shape.proofs.KindTests.{true-is, among-each, scalars, bitmask-among, by-mask, mask-stored, plain-stored}
 use Rattle.fit.specs.Fit.{chooses}
-use Rattle.fit.specs.Shape.{storedKind, isScalar}
-
-pub true-is : (b : Bool) → T b → b ≡ true
-true-is true t = refl
-true-is false t = absurd t
-
-pub is-true : (b : Bool) → b ≡ true → T b
-is-true true e = tt
-is-true false e = absurd (apart e)
-
--- what each of these numbers passes, one of them passes
-pub among-each : (f : ℕ → Bool) (xs : List ℕ) → T (every f xs) → (k : ℕ) → among xs k ≡ true → f k ≡ true
-unfolding every
-among-each f [] t k e = absurd (apart e)
-among-each f (x ∷ xs) t k e =
-    let all : both (f x) (every f xs) ≡ true = true-is (both (f x) (every f xs)) t in
-    go (eqb k x) refl e (both-first (f x) (every f xs) all) (λ h. among-each f xs (is-true (every f xs) (both-second (f x) (every f xs) all)) k h)
-  where
-    go : (b : Bool) → eqb k x ≡ b → (b || among xs k) ≡ true → f x ≡ true → (among xs k ≡ true → f k ≡ true) → f k ≡ true
-    go true q h p r = rw (eqb-true k x q) p
-    go false q h p r = r h
+use Rattle.shape.specs.Shape.{storedKind, isScalar}
 
 -- what the 28 kinds pass, a kind passes
 pub kind-each : (f : ℕ → Bool) → T (passes f 0 28) → (k : ℕ) → k ≤ 27 → f k ≡ true
 kind-each f t k h = true-is (f k) (between f 28 0 t k (omega arith) (omega arith))
-
--- the kinds of `isScalar`
-abbrev scalars : List ℕ
-scalars = 1 ∷ 2 ∷ 3 ∷ 4 ∷ 5 ∷ 6 ∷ 7 ∷ 8 ∷ 9 ∷ 10 ∷ 11 ∷ 12 ∷ 13 ∷ 14 ∷ 19 ∷ []
-
--- the kinds of a scalar's row
-abbrev pub scalar-kinds : List ℕ
-scalar-kinds = 1 ∷ 3 ∷ 4 ∷ 5 ∷ 6 ∷ 7 ∷ 8 ∷ 9 ∷ 10 ∷ 11 ∷ 12 ∷ 13 ∷ 14 ∷ []
 
 -- what is read as a single number or text: any primitive but CHAR16, STRING8, STRING16
 abbrev pub readable : ℕ → Bool
@@ -110,17 +83,6 @@ base-is k e =
       chooses = among-each (λ n. among (3 ∷ 4 ∷ 6 ∷ 7 ∷ 12 ∷ 13 ∷ []) n) (3 ∷ 4 ∷ 12 ∷ []) tt k e;
     }
 
--- a bitmask is stored as 13, 6, 7 or 8
-pub bitmask-among : (f : Bool) (n : ℕ) → among (13 ∷ 6 ∷ 7 ∷ 8 ∷ []) (bitmaskStored f n) ≡ true
-unfolding bitmaskStored storedByBound
-bitmask-among f n = go (within (1 ‥ 8) (pick f n 32)) (within (9 ‥ 16) (pick f n 32)) (within (17 ‥ 32) (pick f n 32))
-  where
-    go : (a b c : Bool) → among (13 ∷ 6 ∷ 7 ∷ 8 ∷ []) (pick a 13 (pick b 6 (pick c 7 8))) ≡ true
-    go true b c = refl
-    go false true c = refl
-    go false false true = refl
-    go false false false = refl
-
 module _ (t : BookType) where
   plain-read : eqb (t .kind) 19 ≡ false → readAs t ≡ t .kind
   unfolding readAs
@@ -130,12 +92,15 @@ module _ (t : BookType) where
   unfolding readAs
   mask-read e = rw e
 
-  by-mask : (P : Type 0) → (eqb (t .kind) 19 ≡ true → P) → (eqb (t .kind) 19 ≡ false → P) → P
-  by-mask P p q = go (eqb (t .kind) 19) refl
-    where
-      go : (b : Bool) → eqb (t .kind) 19 ≡ b → P
-      go true e = p e
-      go false e = q e
+  -- it is stored as the kind that it is read as is
+  pub read-stored : storedOf (readAs t) ≡ storedKind t
+  unfolding storedOf every
+  read-stored =
+      by-mask t (storedOf (readAs t) ≡ storedKind t) (λ m.
+      rw (mask-read m, mask-stored t m)
+      (eqb-true (storedOf (bitmaskStored (bounded t) (t .bound))) (bitmaskStored (bounded t) (t .bound))
+      (among-each (λ k. eqb (storedOf k) k) (13 ∷ 6 ∷ 7 ∷ 8 ∷ []) tt (bitmaskStored (bounded t) (t .bound)) (bitmask-among (bounded t) (t .bound))))) (λ m.
+      rw (plain-read m, plain-stored t m))
 
   mask-readable : eqb (t .kind) 19 ≡ true → readable (readAs t) ≡ true
   unfolding isPrimitive every
@@ -145,19 +110,19 @@ module _ (t : BookType) where
   pub member-readable : t .kind ≤ 27 → eqb (t .kind) 0 ≡ false → unsupportedMember (t .kind) ≡ false → opens (t .kind) ≡ false
       → among (25 ∷ 26 ∷ []) (t .kind) ≡ false → readable (readAs t) ≡ true
   member-readable h z u o l =
-      by-mask (readable (readAs t) ≡ true) mask-readable (λ m.
+      by-mask t (readable (readAs t) ≡ true) mask-readable (λ m.
       rw (plain-read m) (rw (z, u, o, l, m) at (member-kinds (t .kind) h)))
 
   pub element-readable : t .kind ≤ 27 → unsupportedElement (t .kind) ≡ false → opens (t .kind) ≡ false → readable (readAs t) ≡ true
   element-readable h u o =
-      by-mask (readable (readAs t) ≡ true) mask-readable (λ m.
+      by-mask t (readable (readAs t) ≡ true) mask-readable (λ m.
       rw (plain-read m) (rw (u, o, m) at (element-kinds (t .kind) h)))
 
   -- what is read and no text is a scalar
   pub scalar-kind : t .kind ≤ 27 → readable (readAs t) ≡ true → (readAs t ≡ 16 → ⊥) → (readAs t ≡ 17 → ⊥) → isScalar t ≡ true
   unfolding isScalar
   scalar-kind h r p q =
-      by-mask (among scalars (t .kind) ≡ true) (λ m. rw (eqb-true (t .kind) 19 m)) (λ m.
+      by-mask t (among scalars (t .kind) ≡ true) (λ m. rw (eqb-true (t .kind) 19 m)) (λ m.
       let e = plain-read m in
       rw m (rw (m, rw e at r, ne-eqb (t .kind) 16 (λ z. p (e ∙ z)), ne-eqb (t .kind) 17 (λ z. q (e ∙ z))) at (unmasked-kinds (t .kind) h)))
 
@@ -165,18 +130,18 @@ module _ (t : BookType) where
   pub text-kind : (n : ℕ) → among (16 ∷ 17 ∷ []) n ≡ true → readAs t ≡ n → t .kind ≡ n
   unfolding every
   text-kind n h e =
-      by-mask (t .kind ≡ n) (λ m.
+      by-mask t (t .kind ≡ n) (λ m.
       let z = among-each (λ k. not (among (16 ∷ 17 ∷ []) k)) (13 ∷ 6 ∷ 7 ∷ 8 ∷ []) tt n (rw (← e, mask-read m) (bitmask-among (bounded t) (t .bound))) in
       absurd (apart (rw h at z))) (λ m. sym (plain-read m) ∙ e)
 
   -- a discriminator that is a scalar has a row of these kinds
   pub chosen-stored : chooses t ≡ true → isScalar t ≡ true → among (3 ∷ 4 ∷ 6 ∷ 7 ∷ 12 ∷ 13 ∷ []) (storedKind t) ≡ true
-  unfolding chooses isScalar storedKind storedOf every bounded
+  unfolding chooses isScalar storedOf every bounded
   chosen-stored c n =
-      by-mask (among (3 ∷ 4 ∷ 6 ∷ 7 ∷ 12 ∷ 13 ∷ []) (storedOf (readAs t)) ≡ true) (λ m.
-      rw (mask-read m)
-      (among-each (λ k. among (3 ∷ 4 ∷ 6 ∷ 7 ∷ 12 ∷ 13 ∷ []) (storedOf k)) (13 ∷ 6 ∷ 7 ∷ []) tt (bitmaskStored (bounded t) (t .bound)) (rw (eqb-true (t .kind) 19 m) at c))) (λ m.
-      rw (plain-read m) (go (among (2 ∷ 3 ∷ 4 ∷ 6 ∷ 7 ∷ 12 ∷ 13 ∷ 21 ∷ []) (t .kind)) refl (rw m at c)))
+      by-mask t (among (3 ∷ 4 ∷ 6 ∷ 7 ∷ 12 ∷ 13 ∷ []) (storedKind t) ≡ true) (λ m.
+      rw (mask-stored t m)
+      (among-each (λ k. among (3 ∷ 4 ∷ 6 ∷ 7 ∷ 12 ∷ 13 ∷ []) k) (13 ∷ 6 ∷ 7 ∷ []) tt (bitmaskStored (bounded t) (t .bound)) (rw (eqb-true (t .kind) 19 m) at c))) (λ m.
+      rw (plain-stored t m) (go (among (2 ∷ 3 ∷ 4 ∷ 6 ∷ 7 ∷ 12 ∷ 13 ∷ 21 ∷ []) (t .kind)) refl (rw m at c)))
     where
       go : (b : Bool) → among (2 ∷ 3 ∷ 4 ∷ 6 ∷ 7 ∷ 12 ∷ 13 ∷ 21 ∷ []) (t .kind) ≡ b → (b || false) ≡ true → among (3 ∷ 4 ∷ 6 ∷ 7 ∷ 12 ∷ 13 ∷ []) (storedOf (t .kind)) ≡ true
       go true e h =
@@ -185,38 +150,12 @@ module _ (t : BookType) where
 
   -- what is opened is stored as it is
   pub opened-kind : t .kind ≤ 27 → opens (t .kind) ≡ true → storedKind t ≡ t .kind
-  unfolding storedKind
-  opened-kind h o = let k = opened-stored (t .kind) h o in rw (plain-read (k .0)) (k .1)
+  opened-kind h o = let k = opened-stored (t .kind) h o in plain-stored t (k .0) ∙ k .1
 
-  -- BYTE and UINT8 are read as they are
-  pub block-kind : among (2 ∷ 13 ∷ []) (t .kind) ≡ true → readAs t ≡ t .kind
-  unfolding every
-  block-kind e = plain-read (not-true (eqb (t .kind) 19) (among-each (λ k. not (eqb k 19)) (2 ∷ 13 ∷ []) tt (t .kind) e))
-
-  -- the row of a scalar is neither opened nor a list's
-  pub scalar-stored : isScalar t ≡ true → (opens (storedKind t) ≡ false) × (eqb (storedKind t) 25 ≡ false)
-  unfolding isScalar storedKind opens storedOf every
-  scalar-stored n =
-      by-mask ((opens (storedOf (readAs t)) ≡ false) × (eqb (storedOf (readAs t)) 25 ≡ false)) (λ m.
-      rw (mask-read m) (
-        not-true (opens (storedOf (bitmaskStored (bounded t) (t .bound)))) (among-each (λ k. not (opens (storedOf k))) (13 ∷ 6 ∷ 7 ∷ 8 ∷ []) tt (bitmaskStored (bounded t) (t .bound)) (bitmask-among (bounded t) (t .bound))),
-        not-true (eqb (storedOf (bitmaskStored (bounded t) (t .bound))) 25) (among-each (λ k. not (eqb (storedOf k) 25)) (13 ∷ 6 ∷ 7 ∷ 8 ∷ []) tt (bitmaskStored (bounded t) (t .bound)) (bitmask-among (bounded t) (t .bound))),
-      )) (λ m.
-      rw (plain-read m) (
-        not-true (opens (storedOf (t .kind))) (among-each (λ k. not (opens (storedOf k))) scalars tt (t .kind) n),
-        not-true (eqb (storedOf (t .kind)) 25) (among-each (λ k. not (eqb (storedOf k) 25)) scalars tt (t .kind) n),
-      ))
-
-  -- what is stored as it is
-  pub own-stored : (n : ℕ) → t .kind ≡ n → eqb n 19 ≡ false → storedKind t ≡ storedOf n
-  unfolding storedKind
-  own-stored n e m = rw (plain-read (rw (← e) at m)) (ap storedOf e)
-
-  -- it has one of these kinds
-  pub scalar-row : isScalar t ≡ true → among scalar-kinds (storedKind t) ≡ true
-  unfolding isScalar storedKind storedOf every
-  scalar-row n =
-      by-mask (among scalar-kinds (storedOf (readAs t)) ≡ true) (λ m.
-      rw (mask-read m)
-      (among-each (λ k. among scalar-kinds (storedOf k)) (13 ∷ 6 ∷ 7 ∷ 8 ∷ []) tt (bitmaskStored (bounded t) (t .bound)) (bitmask-among (bounded t) (t .bound)))) (λ m.
-      rw (plain-read m) (rw m at (among-each (λ k. pick (eqb k 19) true (among scalar-kinds (storedOf k))) scalars tt (t .kind) n)))
+  -- primitives are read as they are
+  pub primitive-read : isPrimitive (t .kind) ≡ true → readAs t ≡ t .kind
+  unfolding isPrimitive
+  primitive-read e =
+      let i : T (both (leb 1 (t .kind)) (leb (t .kind) 15)) = rw e tt in
+      let high : t .kind ≤ 15 = leb→le (t .kind) 15 (both-right (leb 1 (t .kind)) (leb (t .kind) 15) i) in
+      plain-read (ne-eqb (t .kind) 19 (λ z. omega arith))

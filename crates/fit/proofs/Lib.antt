@@ -1,14 +1,14 @@
 pub mod Ends
 pub mod KindTests
+pub mod Ranges
 pub mod Scalars
 pub mod Unions
+pub mod Fits
 pub mod Settling
 pub mod Exact
 pub mod Books
-pub mod Asked
+pub mod ClauseTests
 pub mod Measuring
 pub mod Checking
-pub mod Walking
-pub mod Flat
 pub mod Demand3
 mod Examples

@@ -1,5 +1,5 @@
 -- What may come of a reading of a fit type, and that a value which opens nothing keeps to it. Assumes nothing.
-use Prim.Native.Nat.{ℕ}
+use Prim.Native.Nat.{ℕ, _^_, _<_}
 use mathlib.Core.Path.{_≡_, refl, sym, _∙_}
 use mathlib.Core.Bool.{Bool, true, false, not}
 use mathlib.Core.List.{List, [], _∷_}
@@ -11,11 +11,9 @@ use Rattle.wire.specs.declared.cursor.Cursor.{Cursor}
 use Rattle.wire.specs.declared.settings.Settings.{Settings}
 use Rattle.wire.specs.declared.number.Number.{Number}
 use Rattle.wire.specs.declared.number.Number.the-variants as number
-use Rattle.wire.specs.declared.number.Float128.{Float128}
-use Rattle.wire.specs.declared.number.Float128.the-variants as float128
 use Rattle.wire.specs.declared.number.Boolean.{Boolean}
 use Rattle.wire.specs.declared.number.Boolean.the-variants as boolean
-use Rattle.wire.specs.Number.{readNumber, readFloat128, readBoolean}
+use Rattle.wire.specs.Number.{readNumber, halvesOf, readFloat128, readBoolean}
 use Rattle.kinds.specs.Kinds.{isPrimitive, storedOf, alignOf}
 use Rattle.text.specs.declared.string.Text.{Text}
 use Rattle.text.specs.declared.string.Text.the-variants as text
@@ -26,10 +24,13 @@ use Rattle.table.specs.declared.out.Refusal.{Refusal}
 use Rattle.table.specs.declared.out.Refusal.the-variants.{InvalidData, NoRoom, NoDiscriminator}
 use Rattle.table.specs.Rows.{row}
 use Rattle.table.specs.Outcome.{Outcome}
-use Rattle.values.specs.Scalar.{rowed, onBoolean, onFloat128, onNumber, onText, scalarOf}
-use Rattle.fit.specs.Shape.{Inside}
+use Rattle.values.specs.Scalar.{rowed, boolWord, onBoolean, onFloat128, wordOf, onNumber, onText, scalarOf}
+use Rattle.shape.specs.Range.{inRange}
+use Rattle.shape.specs.Shape.{Inside}
+use Rattle.fit.specs.Demand3.{AreBytes}
 use Rattle.fit.proofs.Ends.{Ends, finished, wanting, broken, ends-room, by-test}
 use Rattle.fit.proofs.KindTests.{readable}
+use Rattle.fit.proofs.Ranges.{number-below, number-kind, number-range, halves-range}
 
 -- the refusals that are left: InvalidData (2), NoRoom (13), NoDiscriminator (14)
 pub data Allowed : Refusal → Type 0 where
@@ -47,21 +48,22 @@ rowed-settles : {R : List Row → Type 0} (k : ℕ) (c : Cursor) (r : Row) → R
 unfolding rowed
 rowed-settles k c r h = ends-room k no-room (finished h)
 
-boolean-settles : {R : List Row → Type 0} (id k : ℕ) (v : Boolean) → ((a b : ℕ) → R (row 1 id a b ∷ [])) → Settles R (onBoolean id k v)
-unfolding onBoolean
-boolean-settles id k (boolean.Got v c) r = rowed-settles k c _ (r _ _)
+boolean-settles : {R : List Row → Type 0} (id k : ℕ) (v : Boolean) → ((a b : ℕ) → inRange 1 a b ≡ true → R (row 1 id a b ∷ [])) → Settles R (onBoolean id k v)
+unfolding onBoolean boolWord inRange
+boolean-settles id k (boolean.Got true c) r = rowed-settles k c _ (r _ _ refl)
+boolean-settles id k (boolean.Got false c) r = rowed-settles k c _ (r _ _ refl)
 boolean-settles id k boolean.Bad r = broken bad-data
 boolean-settles id k (boolean.Short x) r = wanting
 
-float128-settles : {R : List Row → Type 0} (id k : ℕ) (v : Float128) → ((a b : ℕ) → R (row 11 id a b ∷ [])) → Settles R (onFloat128 id k v)
-unfolding onFloat128
-float128-settles id k (float128.Got low high c) r = rowed-settles k c _ (r _ _)
-float128-settles id k (float128.Short x) r = wanting
+float128-settles : {R : List Row → Type 0} (id k : ℕ) (n : Number) → ((v : ℕ) (d : Cursor) → n ≡ number.Got v d → v < 256 ^ 16) → ((a b : ℕ) → inRange 11 a b ≡ true → R (row 11 id a b ∷ [])) → Settles R (onFloat128 id k (halvesOf n))
+unfolding onFloat128 halvesOf
+float128-settles id k (number.Got v c) small r = rowed-settles k c _ (r _ _ (halves-range v (small v c refl)))
+float128-settles id k (number.Short x) small r = wanting
 
-number-settles : {R : List Row → Type 0} (kind id k : ℕ) (v : Number) → ((a b : ℕ) → R (row (storedOf kind) id a b ∷ [])) → Settles R (onNumber kind id k v)
+number-settles : {R : List Row → Type 0} (kind id k : ℕ) (n : Number) → ((v : ℕ) (d : Cursor) → n ≡ number.Got v d → inRange (storedOf kind) (wordOf kind v) 0 ≡ true) → ((a b : ℕ) → inRange (storedOf kind) a b ≡ true → R (row (storedOf kind) id a b ∷ [])) → Settles R (onNumber kind id k n)
 unfolding onNumber
-number-settles kind id k (number.Got v c) r = rowed-settles k c _ (r _ _)
-number-settles kind id k (number.Short x) r = wanting
+number-settles kind id k (number.Got v c) range r = rowed-settles k c _ (r _ _ (range v c refl))
+number-settles kind id k (number.Short x) range r = wanting
 
 text-settles : {R : List Row → Type 0} (kind id k : ℕ) (v : Text) → ((start n : ℕ) (c : Cursor) → v ≡ text.Got start n c → R (row kind id start n ∷ [])) → Settles R (onText kind id k v)
 unfolding onText
@@ -73,24 +75,24 @@ text-settles kind id k (text.Short x) r = wanting
 own-kind : (n : ℕ) (kind : ℕ) → storedOf n ≡ n → eqb kind n ≡ true → storedOf kind ≡ n
 own-kind n kind s e = rw (eqb-true kind n e) s
 
-module _ {R : List Row → Type 0} (s : List ℕ) (set : Settings) (kind id : ℕ) where
+module _ {R : List Row → Type 0} (s : List ℕ) (bytes : AreBytes s) (set : Settings) (kind id : ℕ) where
   -- by what kind it is read as: a number, or a text that lies inside the data
   pub scalar-settles : (c : Cursor) (k : ℕ) → readable kind ≡ true
-      → ((a b : ℕ) → (kind ≡ 16 → ⊥) → (kind ≡ 17 → ⊥) → R (row (storedOf kind) id a b ∷ []))
+      → ((a b : ℕ) → (kind ≡ 16 → ⊥) → (kind ≡ 17 → ⊥) → inRange (storedOf kind) a b ≡ true → R (row (storedOf kind) id a b ∷ []))
       → ((start n : ℕ) → kind ≡ 16 → Inside s start n 1 → R (row 16 id start n ∷ []))
       → ((start n : ℕ) → kind ≡ 17 → Inside s start n 2 → R (row 17 id start n ∷ []))
       → Settles R (scalarOf s set kind id c k)
-  unfolding scalarOf storedOf
+  unfolding scalarOf storedOf readFloat128
   scalar-settles c k h r r8 r16 =
       let F : Outcome → Type 0 = Settles R in
       by-test F (eqb kind 1) (λ e. boolean-settles id k (readBoolean s set c) (λ a b. rw (own-kind 1 kind refl e) at (r a b (other 1 16 e tt) (other 1 17 e tt)))) (λ n1.
-      by-test F (eqb kind 11) (λ e. float128-settles id k (readFloat128 s set c) (λ a b. rw (own-kind 11 kind refl e) at (r a b (other 11 16 e tt) (other 11 17 e tt)))) (λ n11.
+      by-test F (eqb kind 11) (λ e. float128-settles id k (readNumber s set c 16) (number-below s bytes set c 16) (λ a b. rw (own-kind 11 kind refl e) at (r a b (other 11 16 e tt) (other 11 17 e tt)))) (λ n11.
       by-test F (eqb kind 15) (λ e. absurd (apart (rw e at h))) (λ n15.
       by-test F (eqb kind 16)
       (λ e. text-settles 16 id k (stringType s set c) (λ start n d g. r8 start n (eqb-true kind 16 e) (within8 start n d c g))) (λ n16.
       by-test F (eqb kind 17)
       (λ e. text-settles 17 id k (wstringType s set c) (λ start n d g. r16 start n (eqb-true kind 17 e) (within16 start n d c g))) (λ n17.
-      by-test F (isPrimitive kind) (λ e. number-settles kind id k (readNumber s set c (alignOf kind)) (λ a b. r a b (eqb-false kind 16 n16) (eqb-false kind 17 n17)))
+      by-test F (isPrimitive kind) (λ e. number-settles kind id k (readNumber s set c (alignOf kind)) (λ v d g. number-range kind v (number-kind kind e n1 n11 n15) (number-below s bytes set c (alignOf kind) v d g)) (λ a b. r a b (eqb-false kind 16 n16) (eqb-false kind 17 n17)))
       (λ e. absurd (apart (sym e ∙ (rw (n15, n16, n17) at h)))))))))
     where
       other : (n m : ℕ) → eqb kind n ≡ true → T (not (eqb n m)) → kind ≡ m → ⊥

@@ -2,7 +2,7 @@
 -- numbers. One law for each rule of the reader, in its order, over one hypothesis about how values are opened; then the depth. Assumes nothing.
 use Prim.Native.Nat.{ℕ, zero, suc, _+_, _-_, _≤_}
 use mathlib.Core.Path.{_≡_, refl, sym, ap, _∙_}
-use mathlib.Core.Bool.{Bool, true, false, _||_}
+use mathlib.Core.Bool.{Bool, true, false, not, _||_}
 use mathlib.Core.List.{List, [], _∷_, _++_, append-nil, List·Memᴰ·head, List·Memᴰ·tail}
 use mathlib.Core.Option.{Option, none, some}
 use native.Mathlib.Omega.{arith}
@@ -11,7 +11,7 @@ use lib.ListN.{length}
 use lib.IntN.{ℤ}
 use borrow.Author.Tests.{eqb-true, eq-eqb, not-true}
 use Rattle.ground.specs.Choice.{every, among}
-use Rattle.ground.proofs.Tests.{apart, both-first, both-second, one-second}
+use Rattle.ground.proofs.Tests.{apart, both-first, one-second}
 use Rattle.wire.specs.declared.cursor.Cursor.{Cursor}
 use Rattle.wire.specs.declared.cursor.Place.{Place}
 use Rattle.wire.specs.declared.cursor.Place.the-variants as place
@@ -23,7 +23,7 @@ use Rattle.wire.specs.declared.number.Boolean.{Boolean}
 use Rattle.wire.specs.declared.number.Boolean.the-variants as boolean
 use Rattle.wire.specs.Place.{seekTo}
 use Rattle.wire.specs.Number.{readBoolean}
-use Rattle.kinds.specs.Kinds.{opens, unsupportedMember, unsupportedElement}
+use Rattle.kinds.specs.Kinds.{isPrimitive, opens, unsupportedMember, unsupportedElement}
 use Rattle.book.specs.Types.{BookType, Member, optional, default, typeNo}
 use Rattle.book.specs.Rules.{isEnum, isList}
 use Rattle.choice.specs.Discriminator.{discriminatorOf}
@@ -32,51 +32,33 @@ use Rattle.choice.specs.declared.discriminator.Discriminator.{Discriminator}
 use Rattle.choice.specs.declared.discriminator.Discriminator.the-variants as discriminator
 use Rattle.lookup.specs.Member.{locate}
 use Rattle.lookup.specs.Xcdr1.{seekToSentinel}
-use Rattle.lookup.specs.Dheader.{endingAt}
-use Rattle.lookup.specs.declared.dheader.Ending.{Ending}
-use Rattle.lookup.specs.declared.dheader.Ending.the-variants as ending
 use Rattle.lookup.specs.declared.member.Located.{Located}
 use Rattle.lookup.specs.declared.member.Located.the-variants as located
 use Rattle.table.specs.declared.rows.Row.{Row}
 use Rattle.table.specs.Rows.{row}
 use Rattle.table.specs.Outcome.{Outcome}
 use Rattle.values.specs.Scalar.{scalarOf, enumOf}
-use Rattle.values.specs.List.{elementsFrom, listOf, onBlock, blockOf}
-use Rattle.values.specs.Header.{countFrom, countAt, listStart, unheardDheader}
+use Rattle.values.specs.List.{elementsFrom, listOf, onBlock, blockOf, primitivesOf, bitmasksOrTextsOf}
+use Rattle.wire.specs.declared.dheader.Contents.{Contents}
+use Rattle.wire.specs.declared.dheader.Contents.the-variants as contents
+use Rattle.wire.specs.Dheader.{contentsAt, afterContents}
+use Rattle.values.specs.Header.{countFrom, countAt}
 use Rattle.reader.specs.Value.{Nest, readAs, isSequence, primitiveElement, openedFrom, openedList, elementsOf, listValue, valueOf}
 use Rattle.reader.specs.Member.{byLength, elementCount, foundBy, foundOf, onLocated, mmemberOf, onPresent, optionalBy, fmemberBy, fmemberOf}
-use Rattle.reader.specs.Structure.{absorbs, fmembersOf, mmembersOf, atSentinel, onEnding, mstructBy}
+use Rattle.reader.specs.Structure.{absorbs, fmembersOf, mmembersOf}
 use Rattle.reader.specs.Union.{memberBy, discriminatorBy, onSelected, onDiscriminator, chosenOf, membersBy}
-use Rattle.reader.specs.Nested.{isMutable, contentsAt, asFinal, asMutable, bodyBy, bodyOf, openedIf, nestedAt}
+use Rattle.reader.specs.Nested.{isMutable, isStructure, beginningOf, endingBy, endingIf, endingOf, membersIf, membersOf, delimitedOf, bodyBy, bodyOf, openedIf, nestedAt}
 use Rattle.fit.specs.Fit as fit
-use Rattle.fit.specs.Fit.{OneOf, Fit, linksOf, memberTypes, memberSupported, membersSupported, elementSupported, baseSupported, chooses, firstChooses, discriminatorFits}
-use Rattle.fit.specs.Shape as shape
-use Rattle.fit.specs.Shape.{Value, Single, Elements, Opened, Beneath, Members, Held, storedKind}
-use Rattle.fit.proofs.Ends.{finished, wanting, broken, ends-prepend, ends-then, ends-end, ends-room, ends-closed, ends-back, ends-as, ends-move, ends-number, by-test}
-use Rattle.fit.proofs.KindTests.{readable, member-readable, element-readable, scalar-kind, text-kind, opened-kind, opened-flat, opened-union, block-kind, base-is}
+use Rattle.fit.specs.Fit.{Fit, linksOf, memberTypes, memberSupported, membersSupported, elementSupported, baseSupported, chooses, firstChooses, discriminatorFits, checkClauses}
+use Rattle.shape.specs.Shape as shape
+use Rattle.shape.specs.Shape.{OneOf, Value, Single, Elements, Opened, Beneath, Members, Held, storedKind}
+use Rattle.shape.proofs.Walking.{none-held}
+use Rattle.fit.specs.Demand3.{AreBytes}
+use Rattle.fit.proofs.Fits.{every-one, fit-next, fit-below, members-supported, element-supported, base-supported, discriminator-fits}
+use Rattle.fit.proofs.Ends.{finished, wanting, broken, ends-prepend, ends-then, ends-end, ends-room, ends-closed, ends-back, ends-as, ends-move, ends-contents, ends-number, by-test}
+use Rattle.fit.proofs.KindTests.{readable, read-stored, member-readable, element-readable, scalar-kind, text-kind, opened-kind, opened-flat, opened-union, primitive-read, base-is}
 use Rattle.fit.proofs.Unions.{never-unfit, selected-other}
 use Rattle.fit.proofs.Scalars.{bad-data, no-room, no-discriminator, Settles, scalar-settles}
-
--- what is fit leads to what is fit
-pub fit-next : {types : List BookType} {longest ty next : ℕ} → OneOf next (linksOf (typeNo types ty)) → Fit types longest ty → Fit types longest next
-fit-next l f =
-    record {
-      members = λ k r. f .members k (fit.there l r);
-      elements = λ k r. f .elements k (fit.there l r);
-      bases = λ k r. f .bases k (fit.there l r);
-      discriminators = λ k r. f .discriminators k (fit.there l r);
-      chains = λ n c. f .chains n (fit.passed l c);
-    }
-
-pub fit-below : {types : List BookType} {longest ty next : ℕ} → opens (typeNo types ty .kind) ≡ true → OneOf next (linksOf (typeNo types ty)) → Fit types (suc longest) ty → Fit types longest next
-fit-below o l f =
-    record {
-      members = λ k r. f .members k (fit.there l r);
-      elements = λ k r. f .elements k (fit.there l r);
-      bases = λ k r. f .bases k (fit.there l r);
-      discriminators = λ k r. f .discriminators k (fit.there l r);
-      chains = λ n c. omega (arith, f .chains (suc n) (fit.opened o l c));
-    }
 
 -- what a book's rules say of a type, as far as it is asked for here
 pub record Right (types : List BookType) (k : ℕ) : Type 0 where
@@ -87,12 +69,12 @@ pub record Right (types : List BookType) (k : ℕ) : Type 0 where
 -- ---- lists
 
 array-count : (s : List ℕ) (set : Settings) (primitive sequence : Bool) (bound : ℕ) (c : Cursor) (v : ℕ) (d : Cursor) → sequence ≡ false → countFrom s set primitive sequence bound c ≡ number.Got v d → v ≡ bound
-unfolding countFrom countAt
-array-count s set primitive sequence bound c v d e g = go (listStart s set primitive c) (rw e at g)
+unfolding countFrom countAt afterContents
+array-count s set primitive sequence bound c v d e g = go (contentsAt s set (not primitive) c) (rw e at g)
   where
-    go : (p : Place) → countAt s set false bound p ≡ number.Got v d → v ≡ bound
-    go (place.Short x) g = absurd (let z : _≡_ {A = ℕ} 0 1 = cc in omega arith)
-    go (place.At x) g = cc
+    go : (p : Contents) → afterContents number.Short p (λ x end. countAt s set false bound x) ≡ number.Got v d → v ≡ bound
+    go (contents.Short x) g = absurd (let z : _≡_ {A = ℕ} 0 1 = cc in omega arith)
+    go (contents.Between x end) g = cc
 
 list-is : (k : ℕ) → among (25 ∷ 26 ∷ []) k ≡ true → (eqb k 25 || eqb k 26) ≡ true
 list-is k = go (eqb k 25) (eqb k 26)
@@ -120,10 +102,6 @@ by-length Xcdr2 types t e = both-first (eqb (t .kind) 25) (primitiveElement type
 abbrev NoRows : List Row → Type 0
 NoRows rs = rs ≡ []
 
-pub none-held : (types : List BookType) (s : List ℕ) (ms : List Member) → Members types s ms []
-none-held types s [] = shape.no-member
-none-held types s (m ∷ ms) = shape.member shape.absent (none-held types s ms)
-
 member-type : (ms : List Member) (m : Member) → OneOf m ms → OneOf (m .type) (memberTypes ms)
 unfolding memberTypes
 member-type (x ∷ xs) m (List·Memᴰ·head e) = List·Memᴰ·head (ap (λ (y : Member). y .type) e)
@@ -133,15 +111,10 @@ member-link : (t : BookType) (m : Member) → isList t ≡ false → isEnum t �
 unfolding linksOf
 member-link t m l n o = rw (l, n) (member-type (t .members) m o)
 
-every-one : {A : Type 0} (f : A → Bool) (xs : List A) (x : A) → every f xs ≡ true → OneOf x xs → f x ≡ true
-unfolding every
-every-one f (y ∷ ys) x h (List·Memᴰ·head e) = rw e (both-first (f y) (every f ys) h)
-every-one f (y ∷ ys) x h (List·Memᴰ·tail o) = every-one f ys x (both-second (f y) (every f ys) h) o
-
 -- a member that may be read: its kind, and what it reaches
 record Ready (types : List BookType) (longest : ℕ) (m : Member) : Type 0 where
   supported : memberSupported types m ≡ true
-  fit : Fit types longest (m .type)
+  fit : Fit checkClauses types longest (m .type)
 
 abbrev AllReady : List BookType → ℕ → List Member → Type 0
 AllReady types longest ms = (m : Member) → OneOf m ms → Ready types longest m
@@ -149,34 +122,33 @@ AllReady types longest ms = (m : Member) → OneOf m ms → Ready types longest 
 -- what is asked of a type that is opened
 record Openable (types : List BookType) (longest ty : ℕ) : Type 0 where
   opens : opens (typeNo types ty .kind) ≡ true
-  base : baseSupported (typeNo types ty) ≡ true
-  first : discriminatorFits types (typeNo types ty) ≡ true
+  base : baseSupported types (typeNo types ty) ≡ true
+  discriminator : discriminatorFits types (typeNo types ty) ≡ true
   ready : eqb (typeNo types ty .kind) 21 ≡ false → AllReady types longest (typeNo types ty .members)
 
-openable : (types : List BookType) → ((k : ℕ) → Right types k) → (longest ty : ℕ) → opens (typeNo types ty .kind) ≡ true → Fit types (suc longest) ty → Openable types longest ty
+openable : (types : List BookType) → ((k : ℕ) → Right types k) → (longest ty : ℕ) → opens (typeNo types ty .kind) ≡ true → Fit checkClauses types (suc longest) ty → Openable types longest ty
 unfolding membersSupported
 openable types right longest ty o f =
     let t = typeNo types ty in
     record {
       opens = o;
-      base = f .bases ty fit.here;
-      first = f .discriminators ty fit.here;
+      base = base-supported f;
+      discriminator = discriminator-fits f;
       ready =
           λ (n : eqb (t .kind) 21 ≡ false) (m : Member) (i : OneOf m (t .members)).
           record {
-            supported = every-one (memberSupported types) (t .members) m (rw n at (f .members ty fit.here)) i;
+            supported = every-one (memberSupported types) (t .members) m (rw n at (members-supported f)) i;
             fit = fit-below o (member-link t m (opened-flat (t .kind) (right ty .kind) o) n i) f;
           };
     }
 
-module _ (types : List BookType) (s : List ℕ) (set : Settings) (right : (k : ℕ) → Right types k) where
+module _ (types : List BookType) (s : List ℕ) (bytes : AreBytes s) (set : Settings) (right : (k : ℕ) → Right types k) where
   -- a number or a text of a type
   single-settles : (ty id : ℕ) (c : Cursor) (k : ℕ) → readable (readAs (typeNo types ty)) ≡ true → Settles (Single types s ty id) (scalarOf s set (readAs (typeNo types ty)) id c k)
-  unfolding storedKind
   single-settles ty id c k h =
       let t = typeNo types ty in
-      scalar-settles s set (readAs t) id c k h
-      (λ a b p q. shape.scalar a b (scalar-kind t (right ty .kind) h p q))
+      scalar-settles s bytes set (readAs t) id c k h
+      (λ a b p q g. rw (read-stored t) (shape.scalar a b (scalar-kind t (right ty .kind) h p q) (rw (read-stored t) at g)))
       (λ start n e i. shape.text8 start n (text-kind t 16 refl e) i)
       (λ start n e i. shape.text16 start n (text-kind t 17 refl e) i)
 
@@ -189,8 +161,8 @@ module _ (types : List BookType) (s : List ℕ) (set : Settings) (right : (k : �
   -- a list of them, whatever is said of its row and its elements
   module _ {R : List Row → Type 0} (ty id count : ℕ) (r : (rs : List Row) → Elements types s ty count 0 rs → R (row 25 id (storedKind (typeNo types ty)) count ∷ rs)) where
     list-settles : (c : Cursor) (k : ℕ) → readable (readAs (typeNo types ty)) ≡ true → Settles R (listOf s set (readAs (typeNo types ty)) id count c k)
-    unfolding listOf storedKind
-    list-settles c k h = ends-room k no-room (ends-prepend _ (scalars-settle ty count 0 c (k - 1) h) r)
+    unfolding listOf
+    list-settles c k h = rw (read-stored (typeNo types ty)) (ends-room k no-room (ends-prepend _ (scalars-settle ty count 0 c (k - 1) h) r))
 
     block-settles : (p : Place) (o : Outcome) → Settles R o → Settles R (onBlock p o)
     unfolding onBlock
@@ -199,16 +171,16 @@ module _ (types : List BookType) (s : List ℕ) (set : Settings) (right : (k : �
 
   -- ---- one level of the rules, given what opening a value comes to
 
-  module _ (nest : Nest) (depth : ℕ) (below : (ty id : ℕ) (c : Cursor) (k : ℕ) → opens (typeNo types ty .kind) ≡ true → Fit types depth ty → Settles (Opened types s ty id) (nest ty id c k)) where
-    opened-elements : (ty left i : ℕ) (c : Cursor) (k : ℕ) → opens (typeNo types ty .kind) ≡ true → Fit types depth ty → Settles (Elements types s ty left i) (openedFrom types s set nest ty left i c k)
+  module _ (nest : Nest) (depth : ℕ) (below : (ty id : ℕ) (c : Cursor) (k : ℕ) → opens (typeNo types ty .kind) ≡ true → Fit checkClauses types depth ty → Settles (Opened types s ty id) (nest ty id c k)) where
+    opened-elements : (ty left i : ℕ) (c : Cursor) (k : ℕ) → opens (typeNo types ty .kind) ≡ true → Fit checkClauses types depth ty → Settles (Elements types s ty left i) (openedFrom types s set nest ty left i c k)
     unfolding openedFrom
     opened-elements ty zero i c k o f = finished shape.no-element
     opened-elements ty (suc left) i c k o f =
         ends-then _ (below ty i c k o f) (λ d n. opened-elements ty left (i + 1) d (k - n) o f) (λ rs ss r s. shape.element (shape.nested r) s)
 
     elements-settle : {R : List Row → Type 0} (ty id count : ℕ) → ((rs : List Row) → Elements types s ty count 0 rs → R (row 25 id (storedKind (typeNo types ty)) count ∷ rs))
-        → (c : Cursor) (k : ℕ) → unsupportedElement (typeNo types ty .kind) ≡ false → Fit types depth ty → Settles R (elementsOf types s set nest ty id count c k)
-    unfolding elementsOf openedList blockOf
+        → (c : Cursor) (k : ℕ) → unsupportedElement (typeNo types ty .kind) ≡ false → Fit checkClauses types depth ty → Settles R (elementsOf types s set nest ty id count c k)
+    unfolding elementsOf openedList primitivesOf bitmasksOrTextsOf blockOf
     elements-settle {R} ty id count r c k u f =
         let F : Outcome → Type 0 = Settles R in
         let t = typeNo types ty in
@@ -216,17 +188,18 @@ module _ (types : List BookType) (s : List ℕ) (set : Settings) (right : (k : �
         by-test F (opens (t .kind)) (λ o.
         ends-room k no-room (ends-prepend _ (opened-elements ty count 0 c (k - 1) o f) (λ ss e. rw (opened-kind t (right ty .kind) o) at (r ss e)))) (λ o.
         let h : readable (readAs t) ≡ true = element-readable t (right ty .kind) u o in
-        by-test F (among (2 ∷ 13 ∷ []) (t .kind))
-        (λ e. block-settles ty id count r (seekTo s c count) _ (rw (block-kind t e) at (list-settles {R = R} ty id count r c k h)))
-        (λ n2. list-settles ty id count r c k h)))
+        by-test F (isPrimitive (t .kind)) (λ p.
+        let own : Settles R (listOf s set (t .kind) id count c k) = rw (primitive-read t p) at (list-settles {R = R} ty id count r c k h) in
+        by-test F (among (2 ∷ 13 ∷ []) (t .kind)) (λ e. block-settles ty id count r (seekTo s c count) _ own) (λ n2. own))
+        (λ p. list-settles ty id count r c k h)))
 
     -- an array has as many elements as its bound says
-    list-value : (ty id : ℕ) (c : Cursor) (k : ℕ) → among (25 ∷ 26 ∷ []) (typeNo types ty .kind) ≡ true → Fit types depth ty → Settles (Value types s ty id) (listValue types s set nest (typeNo types ty) id c k)
+    list-value : (ty id : ℕ) (c : Cursor) (k : ℕ) → among (25 ∷ 26 ∷ []) (typeNo types ty .kind) ≡ true → Fit checkClauses types depth ty → Settles (Value types s ty id) (listValue types s set nest (typeNo types ty) id c k)
     unfolding listValue isSequence
     list-value ty id c k e f =
         let t = typeNo types ty in
         ends-number _ _ (λ count d g.
-        elements-settle (t .element) id count (rows count d g (eqb (t .kind) 25) refl) d k (list-element types t (f .elements ty fit.here) (list-is (t .kind) e)) (fit-next (list-link t (list-is (t .kind) e)) f))
+        elements-settle (t .element) id count (rows count d g (eqb (t .kind) 25) refl) d k (list-element types t (element-supported f) (list-is (t .kind) e)) (fit-next (list-link t (list-is (t .kind) e)) f))
       where
         rows : (count : ℕ) (d : Cursor) → countFrom s set (primitiveElement types (typeNo types ty)) (eqb (typeNo types ty .kind) 25) (typeNo types ty .bound) c ≡ number.Got count d
             → (b : Bool) → eqb (typeNo types ty .kind) 25 ≡ b → (rs : List Row) → Elements types s (typeNo types ty .element) count 0 rs
@@ -257,7 +230,7 @@ module _ (types : List BookType) (s : List ℕ) (set : Settings) (right : (k : �
         let t = typeNo types (m .type) in
         let q : eqb (t .kind) 25 ≡ true = by-length (set .version) types t e in
         let l : (eqb (t .kind) 25 || eqb (t .kind) 26) ≡ true = rw q in
-        elements-settle (t .element) (m .id) (elementCount types t length) (λ rs x. shape.present (shape.sequence _ (eqb-true (t .kind) 25 q) x)) c k (list-element types t (h .fit .elements (m .type) fit.here) l) (fit-next (list-link t l) (h .fit))
+        elements-settle (t .element) (m .id) (elementCount types t length) (λ rs x. shape.present (shape.sequence _ (eqb-true (t .kind) 25 q) x)) c k (list-element types t (element-supported (h .fit)) l) (fit-next (list-link t l) (h .fit))
     found-settles false m length c k e h = value-settles m c k h
 
     located-settles : (m : Member) (k : ℕ) (l : Located) → Ready types depth m → Settles (Held types s m) (onLocated types s set nest m k l)
@@ -306,17 +279,16 @@ module _ (types : List BookType) (s : List ℕ) (set : Settings) (right : (k : �
     mmembers-settle (m ∷ ms) c k h =
         ends-then _ (mmember-settles m c k (h m (List·Memᴰ·head refl))) (λ d n. mmembers-settle ms d (k - n) (λ x o. h x (List·Memᴰ·tail o))) (λ rs ss r x. shape.member r x)
 
-    ending-settles : (t : BookType) (k : ℕ) (e : Ending) → AllReady types depth (t .members) → Settles (Members types s (t .members)) (onEnding types s set nest t k e)
-    unfolding onEnding
-    ending-settles t k (ending.Short x) h = wanting
-    ending-settles t k (ending.At end c) h =
-        ends-then {S = NoRows} _ (mmembers-settle (t .members) c k h) (λ d n. finished refl) (λ rs ss r e. rw (e, append-nil) r)
+    -- what ends it has no rows
+    ending-by : (v : Version) (end : ℕ) (c : Cursor) → Settles NoRows (endingBy s set v end c)
+    unfolding endingBy
+    ending-by Xcdr1 end c = ends-move (seekToSentinel s set c) _ (λ d. finished refl)
+    ending-by Xcdr2 end c = finished refl
 
-    mstruct-settles : (v : Version) (t : BookType) (c : Cursor) (k : ℕ) → AllReady types depth (t .members) → Settles (Members types s (t .members)) (mstructBy types s set nest v t c k)
-    unfolding mstructBy atSentinel
-    mstruct-settles Xcdr1 t c k h =
-        ends-then {S = NoRows} _ (mmembers-settle (t .members) c k h) (λ d n. ends-move (seekToSentinel s set d) _ (λ x. finished refl)) (λ rs ss r e. rw (e, append-nil) r)
-    mstruct-settles Xcdr2 t c k h = ending-settles t k (endingAt s set c) h
+    ending-settles : (f : Bool) (end : ℕ) (c : Cursor) → Settles NoRows (endingIf s set f end c)
+    unfolding endingIf
+    ending-settles true end c = ending-by (set .version) end c
+    ending-settles false end c = finished refl
 
     -- ---- unions
 
@@ -377,7 +349,7 @@ module _ (types : List BookType) (s : List ℕ) (set : Settings) (right : (k : �
     enum-settles t c k e b =
         let base = base-is (t .base) b in
         rw b
-        (scalar-settles s set (t .base) 0 c k (base .reads) (λ x y p q. rw (base .stored) (shape.enum x y e b)) (λ start n z i. absurd (base .noText8 z)) (λ start n z i. absurd (base .noText16 z)))
+        (scalar-settles s bytes set (t .base) 0 c k (base .reads) (λ x y p q g. rw (base .stored) (shape.enum x y e b (rw (base .stored) at g))) (λ start n z i. absurd (base .noText8 z)) (λ start n z i. absurd (base .noText16 z)))
 
     module _ (ty : ℕ) (o : Openable types depth ty) where
       abbrev own : BookType
@@ -387,32 +359,33 @@ module _ (types : List BookType) (s : List ℕ) (set : Settings) (right : (k : �
       unfolding discriminatorFits
       a-union mutable c k n m =
           let e : own .kind ≡ 23 = opened-union (own .kind) (right ty .kind) (o .opens) n m in
-          union-settles mutable own (own .members) c k e refl (rw (eq-eqb (own .kind) 23 e) at (o .first)) (λ d rest q. (right ty .noDefault d rest e q, right ty .noLabel d rest e q)) (o .ready n)
+          union-settles mutable own (own .members) c k e refl (rw (eq-eqb (own .kind) 23 e) at (o .discriminator)) (λ d rest q. (right ty .noDefault d rest e q, right ty .noLabel d rest e q)) (o .ready n)
 
-      final-settles : (b : Bool) (c : Cursor) (k : ℕ) → eqb (own .kind) 22 ≡ b → eqb (own .kind) 21 ≡ false → Settles (Beneath types s own) (asFinal types s set nest b own c k)
-      unfolding asFinal
-      final-settles true c k e n = ends-as (fmembers-settle own (own .members) c k (o .ready n)) (λ rs x. shape.structure (eqb-true (own .kind) 22 e) x)
-      final-settles false c k e n = a-union false c k n e
+      members-settle : (b mutable : Bool) (c : Cursor) (k : ℕ) → eqb (own .kind) 22 ≡ b → eqb (own .kind) 21 ≡ false → Settles (Beneath types s own) (membersIf types s set nest b mutable own c k)
+      unfolding membersIf
+      members-settle true true c k e n = ends-as (mmembers-settle (own .members) c k (o .ready n)) (λ rs x. shape.structure (eqb-true (own .kind) 22 e) x)
+      members-settle true false c k e n = ends-as (fmembers-settle own (own .members) c k (o .ready n)) (λ rs x. shape.structure (eqb-true (own .kind) 22 e) x)
+      members-settle false mutable c k e n = a-union mutable c k n e
 
-      mutable-settles : (b : Bool) (c : Cursor) (k : ℕ) → eqb (own .kind) 22 ≡ b → eqb (own .kind) 21 ≡ false → Settles (Beneath types s own) (asMutable types s set nest b own c k)
-      unfolding asMutable
-      mutable-settles true c k e n = ends-as (mstruct-settles (set .version) own c k (o .ready n)) (λ rs x. shape.structure (eqb-true (own .kind) 22 e) x)
-      mutable-settles false c k e n = a-union true (unheardDheader s set c) k n e
+      delimited-settles : (c : Cursor) (k : ℕ) → eqb (own .kind) 21 ≡ false → Settles (Beneath types s own) (delimitedOf types s set nest own c k)
+      unfolding delimitedOf membersOf endingOf isStructure
+      delimited-settles c k n =
+          ends-contents (beginningOf s set own c) _ (λ d end.
+          ends-then {S = NoRows} _ (members-settle (eqb (own .kind) 22) (isMutable own) d k refl n) (λ e used. ending-settles _ end e) (λ rs ss r e. rw (e, append-nil) r))
 
-      body-by : (b mutable : Bool) (c : Cursor) (k : ℕ) → eqb (own .kind) 21 ≡ b → Settles (Beneath types s own) (bodyBy types s set nest b mutable own c k)
+      body-by : (b : Bool) (c : Cursor) (k : ℕ) → eqb (own .kind) 21 ≡ b → Settles (Beneath types s own) (bodyBy types s set nest b own c k)
       unfolding bodyBy baseSupported
-      body-by true mutable c k e = enum-settles own c k (eqb-true (own .kind) 21 e) (rw e at (o .base))
-      body-by false true c k e = mutable-settles (eqb (own .kind) 22) c k refl e
-      body-by false false c k e = ends-move (contentsAt s set own c) _ (λ d. final-settles (eqb (own .kind) 22) d k refl e)
+      body-by true c k e = enum-settles own c k (eqb-true (own .kind) 21 e) (rw e at (o .base))
+      body-by false c k e = delimited-settles c k e
 
       opened-settles : (id : ℕ) (c : Cursor) (k : ℕ) → Settles (Opened types s ty id) (openedIf types s set nest (opens (own .kind)) ty id c k)
       unfolding openedIf bodyOf
       opened-settles id c k =
-          rw (o .opens) (ends-room k no-room (ends-closed _ _ _ (body-by (eqb (own .kind) 21) (isMutable own) c (k - 1) refl) (λ rs x. shape.opened x)))
+          rw (o .opens) (ends-room k no-room (ends-closed _ _ _ (body-by (eqb (own .kind) 21) c (k - 1) refl) (λ rs x. shape.opened x)))
 
 -- a value of a fit type, where as many values may be opened as its longest chain has
-pub nested-settles : (types : List BookType) (s : List ℕ) (set : Settings) → ((k : ℕ) → Right types k) → (depth ty id : ℕ) (c : Cursor) (k : ℕ) → opens (typeNo types ty .kind) ≡ true → Fit types depth ty → Settles (Opened types s ty id) (nestedAt types s set depth ty id c k)
+pub nested-settles : (types : List BookType) (s : List ℕ) → AreBytes s → (set : Settings) → ((k : ℕ) → Right types k) → (depth ty id : ℕ) (c : Cursor) (k : ℕ) → opens (typeNo types ty .kind) ≡ true → Fit checkClauses types depth ty → Settles (Opened types s ty id) (nestedAt types s set depth ty id c k)
 unfolding nestedAt
-nested-settles types s set right zero ty id c k o f = absurd (omega (arith, f .chains 1 (fit.last o)))
-nested-settles types s set right (suc depth) ty id c k o f =
-    opened-settles types s set right (nestedAt types s set depth) depth (nested-settles types s set right depth) ty (openable types right depth ty o f) id c k
+nested-settles types s bytes set right zero ty id c k o f = absurd (omega (arith, f .chains 1 (fit.last o)))
+nested-settles types s bytes set right (suc depth) ty id c k o f =
+    opened-settles types s bytes set right (nestedAt types s set depth) depth (nested-settles types s bytes set right depth) ty (openable types right depth ty o f) id c k

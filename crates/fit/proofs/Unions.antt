@@ -18,10 +18,11 @@ use Rattle.table.specs.Rows.{row}
 use Rattle.choice.specs.Discriminator.{discriminatorIn, enumIn, discriminatorOf}
 use Rattle.choice.specs.Select.{byDefaultValue, defaultValue, selectedOf}
 use Rattle.choice.specs.declared.discriminator.Discriminator.the-variants.{Unfit}
-use Rattle.fit.specs.Fit.{OneOf, chooses}
-use Rattle.fit.specs.Shape as shape
-use Rattle.fit.specs.Shape.{Held, storedKind}
-use Rattle.fit.proofs.KindTests.{among-each, base-is, chosen-stored}
+use Rattle.fit.specs.Fit.{chooses}
+use Rattle.shape.specs.Shape as shape
+use Rattle.shape.specs.Shape.{OneOf, Held, storedKind}
+use Rattle.shape.proofs.KindTests.{among-each}
+use Rattle.fit.proofs.KindTests.{base-is, chosen-stored}
 
 -- ---- the discriminator's value can be taken from its rows
 
@@ -38,10 +39,10 @@ row-of kind id a b e z =
 pub never-unfit : (types : List BookType) (s : List ℕ) (m : Member) (rs : List Row) → Held types s m rs → chooses (typeNo types (m .type)) ≡ true → discriminatorOf rs ≡ Unfit → ⊥
 unfolding discriminatorOf enumIn chooses
 never-unfit types s m rs shape.absent c z = let q : _≡_ {A = ℕ} 0 1 = cc in omega arith
-never-unfit types s m rs (shape.present (shape.one (shape.scalar a b n))) c z = row-of (storedKind (typeNo types (m .type))) (m .id) a b (chosen-stored (typeNo types (m .type)) c n) z
+never-unfit types s m rs (shape.present (shape.one (shape.scalar a b n g))) c z = row-of (storedKind (typeNo types (m .type))) (m .id) a b (chosen-stored (typeNo types (m .type)) c n) z
 never-unfit types s m rs (shape.present (shape.one (shape.text8 start n e i))) c z = apart (rw e at c)
 never-unfit types s m rs (shape.present (shape.one (shape.text16 start n e i))) c z = apart (rw e at c)
-never-unfit types s m rs (shape.present (shape.one (shape.nested (shape.opened (shape.enum a b e f))))) c z = row-in (row (typeNo types (m .type) .base) 0 a b) (base-is (typeNo types (m .type) .base) f .chooses) (rw e at z)
+never-unfit types s m rs (shape.present (shape.one (shape.nested (shape.opened (shape.enum a b e f g))))) c z = row-in (row (typeNo types (m .type) .base) 0 a b) (base-is (typeNo types (m .type) .base) f .chooses) (rw e at z)
 never-unfit types s m rs (shape.present (shape.one (shape.nested (shape.opened (shape.structure e x))))) c z = apart (rw e at c)
 never-unfit types s m rs (shape.present (shape.one (shape.nested (shape.opened (shape.union v e p h g q o k))))) c z = apart (rw e at c)
 never-unfit types s m rs (shape.present (shape.sequence n e x)) c z = apart (rw e at c)

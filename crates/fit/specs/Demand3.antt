@@ -3,28 +3,33 @@ use Prim.Native.Nat.{ℕ, _≤_, _<_}
 use mathlib.Core.Path.{_≡_}
 use mathlib.Core.Bool.{true, false}
 use mathlib.Core.List.{List}
+use lib.ListN.{getD}
 use Rattle.book.specs.Types.{BookType, typeCount, typesOf}
 use Rattle.book.specs.Rules.{bookOk}
 use Rattle.table.specs.Outcome.{Outcome, numberOf, rowsOf}
-use Rattle.fit.specs.Fit.{Passes}
-use Rattle.fit.specs.Shape.{Opened}
+use Rattle.fit.specs.Fit.{checkClauses, Passes}
+use Rattle.shape.specs.Shape.{Opened}
 
 -- the check's number, with what it says: 0 passes, "Otherwise 8, 9, then 16."
 pub data Checked (book : List ℕ) (root : ℕ) : ℕ → Type 0 where
-  fit : bookOk book ≡ true → root < typeCount book → Passes (typesOf book) root → Checked book root 0
+  fit : bookOk book ≡ true → root < typeCount book → Passes checkClauses (typesOf book) root → Checked book root 0
   bad-book : bookOk book ≡ false → Checked book root 8
   bad-root : bookOk book ≡ true → typeCount book ≤ root → Checked book root 9
-  unfit : bookOk book ≡ true → root < typeCount book → (Passes (typesOf book) root → ⊥) → Checked book root 16
+  unfit : bookOk book ≡ true → root < typeCount book → (Passes checkClauses (typesOf book) root → ⊥) → Checked book root 16
+
+-- the elements of the data are bytes. A list's elements may be any numbers; those of a slice that a call is lent are such
+abbrev pub AreBytes : List ℕ → Type 0
+AreBytes s = (i : ℕ) → getD s i 0 < 256
 
 -- the numbers that are left for a reading of a type that the check passes
-pub data Told : ℕ → Type 0 where
-  finished-reading : Told 0
-  too-few-bytes : Told 1
-  invalid-data : Told 2
-  full-table : Told 13
-  absent-discriminator : Told 14
+pub data ReadingNumber : ℕ → Type 0 where
+  finished-reading : ReadingNumber 0
+  too-few-bytes : ReadingNumber 1
+  invalid-data : ReadingNumber 2
+  full-table : ReadingNumber 13
+  absent-discriminator : ReadingNumber 14
 
 -- the reading gives one of these numbers, and where it is finished its rows are those of one value of the root's type, with id 0
 pub record Untroubled (types : List BookType) (s : List ℕ) (root : ℕ) (o : Outcome) : Type 0 where
-  pub number : Told (numberOf o)
+  pub number : ReadingNumber (numberOf o)
   pub rows : numberOf o ≡ 0 → Opened types s root 0 (rowsOf o)

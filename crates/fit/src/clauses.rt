@@ -1,9 +1,9 @@
 // What the check asks of one type by itself: a function for each clause.
 ghost use mathlib.Core.Path.{_≡_};
-ghost use Rattle.book.specs.Types.{typeNo};
+ghost use mathlib.Core.List.{List};
+ghost use Rattle.book.specs.Types.{BookType, typeNo};
 ghost use Rattle.book.specs.Places.{memberAt, typeAt, typesBy};
-ghost use Rattle.fit.specs.Fit.{memberSupported, membersSupported, elementSupported, baseSupported, chooses, discriminatorFits};
-ghost use Rattle.fit.specs.Check.{clausesMet};
+ghost use Rattle.fit.specs.Fit.{memberSupported, membersSupported, elementSupported, baseSupported, chooses, discriminatorFits, checkClauses, meets};
 use book::index::place;
 use book::member::after;
 use book::member::members;
@@ -66,8 +66,9 @@ fn element_supported(book: &[u8], index: &[u32], at: usize) -> bool
     true
 }
 
+// Whatever the other types are.
 fn base_supported(book: &[u8], at: usize) -> bool
-    ensures { λ r. ⌜ r ≡ baseSupported (typeAt (now (book .entry)) at) ⌝ }
+    ensures { λ r. ⌜ ((types : List BookType) → r ≡ baseSupported types (typeAt (now (book .entry)) at)) ⌝ }
 {
     let kind = kind_at(book, at);
     if kind == ENUM {
@@ -110,17 +111,12 @@ fn discriminator_fits(book: &[u8], index: &[u32], at: usize) -> bool
     true
 }
 
+// Every clause of the check: the function of a clause that is added joins the others here.
 pub fn clauses_met(book: &[u8], index: &[u32], at: usize) -> bool
-    ensures { λ r. ⌜ r ≡ clausesMet (typesBy (now (book .entry)) (now (index .entry))) (typeAt (now (book .entry)) at) ⌝ }
+    ensures { λ r. ⌜ r ≡ meets checkClauses (typesBy (now (book .entry)) (now (index .entry))) (typeAt (now (book .entry)) at) ⌝ }
 {
-    if !members_supported(book, index, at) {
-        return false;
-    }
-    if !element_supported(book, index, at) {
-        return false;
-    }
-    if !base_supported(book, at) {
-        return false;
-    }
-    discriminator_fits(book, index, at)
+    members_supported(book, index, at)
+        & element_supported(book, index, at)
+        & base_supported(book, at)
+        & discriminator_fits(book, index, at)
 }

@@ -4,8 +4,9 @@ ghost use mathlib.Core.Path.{_≡_};
 ghost use Prim.Native.Nat.{_≤_, _<_, max};
 ghost use lib.ListN.{length, getD};
 ghost use Rattle.book.specs.Places.{typeAt, typesBy};
-ghost use Rattle.fit.specs.Fit.{linksOf};
-ghost use Rattle.fit.specs.Check.{tooLong, longestFrom, chainOf, Measured, fits, checkOf};
+ghost use Rattle.fit.specs.Fit.{linksOf, checkClauses};
+ghost use Rattle.fit.specs.Check.{checkOf};
+ghost use Rattle.fit.specs.Code.Check.{tooLong, longestFrom, chainOf, Measured, fits};
 
 pub mod clauses;
 
@@ -29,11 +30,11 @@ const TYPES: usize = 64;
 // The longest chain of structures, enums and unions that a reading opens.
 const LONGEST: u8 = 16;
 
-// Stands for a type that is not fit: one more.
+// The measure of a type that is not fit: one more.
 const TOO_LONG: u8 = 17;
 
-// What stands for type number k: a type that is not below is not fit.
-fn standing(lower: &[u8], k: usize) -> u8
+// The measure of type number k: a type that is not below is not fit.
+fn lower_chain(lower: &[u8], k: usize) -> u8
     ensures { λ r. ⌜ r ≡ getD (now (lower .entry)) k tooLong ⌝ }
 {
     if lower.len() <= k {
@@ -54,7 +55,7 @@ fn longest(book: &[u8], lower: &[u8], at: usize) -> u8
 {
     let kind = kind_at(book, at);
     if (kind == SEQUENCE) | (kind == ARRAY) {
-        return standing(lower, element(book, at));
+        return lower_chain(lower, element(book, at));
     }
     if kind == ENUM {
         return 0;
@@ -63,7 +64,7 @@ fn longest(book: &[u8], lower: &[u8], at: usize) -> u8
     let mut ms = members(book, at);
     while 0 < ms.left {
         let p = ms.at;
-        m = greater(m, standing(lower, type_index(book, p)));
+        m = greater(m, lower_chain(lower, type_index(book, p)));
         ms = after(book, ms);
     }
     m
@@ -71,7 +72,7 @@ fn longest(book: &[u8], lower: &[u8], at: usize) -> u8
 
 // The longest chain from the type at a place, whose lower records are measured.
 fn chain(book: &[u8], index: &[u32], lower: &[u8], at: usize) -> u8
-    ensures { λ r. ⌜ r ≡ chainOf (typesBy (now (book .entry)) (now (index .entry))) (now (lower .entry)) (typeAt (now (book .entry)) at) ⌝ }
+    ensures { λ r. ⌜ r ≡ chainOf checkClauses (typesBy (now (book .entry)) (now (index .entry))) (now (lower .entry)) (typeAt (now (book .entry)) at) ⌝ }
 {
     if !clauses_met(book, index, at) {
         return TOO_LONG;
@@ -89,7 +90,7 @@ fn chain(book: &[u8], index: &[u32], lower: &[u8], at: usize) -> u8
 // Measures the first n records, the lower ones first, so that each is measured once.
 fn chains(book: &[u8], index: &[u32], lent: &mut [u8], n: usize)
     requires { ⌜ n ≤ length (now lent) ⌝ }
-    ensures { λ r. ⌜ Measured (typesBy (now (book .entry)) (now (index .entry))) n (now (lent .entry)) (now (lent .exit)) ⌝ }
+    ensures { λ r. ⌜ Measured checkClauses (typesBy (now (book .entry)) (now (index .entry))) n (now (lent .entry)) (now (lent .exit)) ⌝ }
 {
     if n == 0 {
         return;
@@ -103,7 +104,7 @@ fn chains(book: &[u8], index: &[u32], lent: &mut [u8], n: usize)
 // Whether the check passes type number `root` of those that an index finds.
 fn fits_by(book: &[u8], index: &[u32], root: usize) -> bool
     requires { ⌜ root < 64 ⌝ }
-    ensures { λ r. ⌜ r ≡ fits (typesBy (now (book .entry)) (now (index .entry))) root ⌝ }
+    ensures { λ r. ⌜ r ≡ fits checkClauses (typesBy (now (book .entry)) (now (index .entry))) root ⌝ }
 {
     let at = place(book, index, root);
     if !kinds::opens(kind_at(book, at)) {

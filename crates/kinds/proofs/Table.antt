@@ -1,52 +1,26 @@
--- The table's rule, by one test that antt computes at each code; and what the reader asks of its columns. Assumes nothing.
+-- A column's rule, by one test that antt computes at each code; and what readers ask of the columns. Assumes nothing.
 use Prim.Native.Nat.{ℕ, _≤_, _<_, zero-le}
 use mathlib.Core.Path.{_≡_, refl}
-use mathlib.Core.Bool.{Bool, true, false, _||_}
+use mathlib.Core.Bool.{Bool, true, false, not, _||_}
 use mathlib.Core.List.{List, [], _∷_}
 use lib.Dec.{T, eqb, leb, lit<, eqb→eq, leb→le}
 use lib.ListN.{getD}
 use borrow.Author.Tests.{ne-eqb, leb-true, leb-false}
 use native.Mathlib.Omega.{arith}
-use Rattle.ground.specs.Choice.{pick, both, among}
+use Rattle.ground.specs.Choice.{pick, both, among, _‥_, within}
 use Rattle.ground.proofs.Tests.{both-left, both-right, above}
 use Rattle.ground.proofs.Between.{passes, between}
-use Rattle.kinds.specs.Kinds.{alignOf, elementSizeOf, storedOf, entryOf, isPrimitive}
-use Rattle.kinds.specs.declared.Entry.{Entry}
+use Rattle.kinds.specs.Kinds.{alignOf, elementSizeOf, storedOf, isPrimitive, opens}
 
-abbrev e : ℕ → ℕ → ℕ → Entry
-e a n s = record { align = a; element = n; stored = s }
+-- a column of 28 entries that passes the test is the rule's, whichever of the three it is
+pub listed : (rule : ℕ → ℕ) (column : List ℕ) (k : ℕ) → k < 28 → T (passes (λ i. eqb (getD column i 0) (rule i)) 0 28) → getD column k 0 ≡ rule k
+listed rule column k h p = eqb→eq _ _ (between (λ i. eqb (getD column i 0) (rule i)) 28 0 p k zero-le h)
 
-abbrev sameAlign : Entry → Entry → Bool
-sameAlign x y = eqb (x .align) (y .align)
+-- a byte that is no kind has what NONE has
+pub unlisted : (rule : ℕ → ℕ) (none k : ℕ) → 28 ≤ k → k < 256 → T (passes (λ i. eqb none (rule i)) 28 228) → none ≡ rule k
+unlisted rule none k h l p = eqb→eq _ _ (between (λ i. eqb none (rule i)) 228 28 p k h l)
 
-abbrev sameElement : Entry → Entry → Bool
-sameElement x y = eqb (x .element) (y .element)
-
-abbrev sameStored : Entry → Entry → Bool
-sameStored x y = eqb (x .stored) (y .stored)
-
-abbrev same : Entry → Entry → Bool
-same x y = both (sameAlign x y) (both (sameElement x y) (sameStored x y))
-
-same-is : (x y : Entry) → T (same x y) → x ≡ y
-same-is x y t =
-    let u = both-right (sameAlign x y) (both (sameElement x y) (sameStored x y)) t in
-    let a : x .align ≡ y .align = eqb→eq _ _ (both-left (sameAlign x y) (both (sameElement x y) (sameStored x y)) t) in
-    let n : x .element ≡ y .element = eqb→eq _ _ (both-left (sameElement x y) (sameStored x y) u) in
-    let s : x .stored ≡ y .stored = eqb→eq _ _ (both-right (sameElement x y) (sameStored x y) u) in
-    let whole : e (x .align) (x .element) (x .stored) ≡ e (y .align) (y .element) (y .stored) = rw (a, n, s) in
-    whole
-
--- any table of 28 entries that passes the test
-pub listed : (t : List Entry) (k : ℕ) → k < 28 → T (passes (λ i. same (getD t i (e 0 0 0)) (entryOf i)) 0 28) → getD t k (e 0 0 0) ≡ entryOf k
-listed t k h p = same-is _ _ (between (λ i. same (getD t i (e 0 0 0)) (entryOf i)) 28 0 p k zero-le h)
-
--- a byte that is no kind has NONE's entry
-pub unlisted : (k : ℕ) → 28 ≤ k → k < 256 → e 0 1 0 ≡ entryOf k
-unfolding alignOf elementSizeOf storedOf
-unlisted k h l = same-is _ _ (between (λ i. same (e 0 1 0) (entryOf i)) 228 28 tt k h l)
-
--- What the reader asks of the columns.
+-- What readers ask of the columns.
 pub primitive-range : (k : ℕ) → isPrimitive k ≡ true → (1 ≤ k) × (k ≤ 15)
 unfolding isPrimitive
 primitive-range k p =
@@ -67,10 +41,49 @@ primitive-align k p h =
     let t : T (word k) = rw (ne-eqb k 11 h) at (words k (r .0) (omega arith)) in
     (leb→le 1 (alignOf k) (both-left (leb 1 (alignOf k)) (leb (alignOf k) 8) t), leb→le (alignOf k) 8 (both-right (leb 1 (alignOf k)) (leb (alignOf k) 8) t))
 
+-- "(FLOAT128 to 16)"
+pub float128-align : alignOf 11 ≡ 16
+unfolding alignOf
+float128-align = refl
+
 -- "BYTE is stored as 13."
 byte-stored : storedOf 2 ≡ 13
 unfolding storedOf
 byte-stored = refl
+
+-- any other is stored as its own kind
+abbrev own : ℕ → Bool
+own k = both (within (0 ‥ 27) k) (not (among (2 ∷ 26 ∷ []) k))
+
+pub own-stored : (k : ℕ) → T (own k) → storedOf k ≡ k
+unfolding storedOf
+own-stored k t = go (eqb k 2) (eqb k 26) (within (0 ‥ 27) k) t
+  where
+    go : (byte array listed : Bool) → T (both listed (not (byte || (array || false)))) → pick byte 13 (pick array 25 (pick listed k 0)) ≡ k
+    go true array true t = absurd t
+    go true array false t = absurd t
+    go false true true t = absurd t
+    go false true false t = absurd t
+    go false false true t = refl
+    go false false false t = absurd t
+
+-- "Sequences and arrays: kind 25"
+pub sequence-stored : storedOf 25 ≡ 25
+unfolding storedOf
+sequence-stored = refl
+
+pub array-stored : storedOf 26 ≡ 25
+unfolding storedOf
+array-stored = refl
+
+-- "a structure, enum or union its own kind"
+pub opened-stored : (k : ℕ) → opens k ≡ true → storedOf k ≡ k
+unfolding opens
+opened-stored k o =
+    let t : T (both (leb 21 k) (leb k 23)) = rw o tt in
+    let low : 21 ≤ k = leb→le 21 k (both-left (leb 21 k) (leb k 23) t) in
+    let high : k ≤ 23 = leb→le k 23 (both-right (leb 21 k) (leb k 23) t) in
+    own-stored k (between own 3 21 tt k low (omega arith))
 
 -- a stored kind is one of the 28
 pub stored-listed : (k : ℕ) → storedOf k ≤ 27

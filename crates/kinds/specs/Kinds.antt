@@ -1,12 +1,11 @@
 -- What document 01 says of the kinds: "0 NONE, 1 BOOLEAN, 2 BYTE, 3 INT16, 4 INT32, 5 INT64, 6 UINT16, 7 UINT32, 8 UINT64, 9 FLOAT32,
 -- 10 FLOAT64, 11 FLOAT128, 12 INT8, 13 UINT8, 14 CHAR8, 15 CHAR16, 16 STRING8, 17 STRING16, 18 ALIAS, 19 BITMASK, 20 ANNOTATION,
--- 21 ENUM, 22 STRUCTURE, 23 UNION, 24 BITSET, 25 SEQUENCE, 26 ARRAY, 27 MAP." A code of 28 or more has what NONE has.
+-- 21 ENUM, 22 STRUCTURE, 23 UNION, 24 BITSET, 25 SEQUENCE, 26 ARRAY, 27 MAP." The three columns give a code of 28 or more what NONE has.
 use Prim.Native.Nat.{ℕ}
 use mathlib.Core.List.{[], _∷_}
 use mathlib.Core.Bool.{Bool, _||_}
 use lib.Dec.{eqb}
 use Rattle.ground.specs.Choice.{pick, among, _‥_, within}
-use Rattle.kinds.specs.declared.Entry.{Entry}
 
 -- "A number is aligned to its own size (FLOAT128 to 16)": 1, 2, 4, 8 or 16 bytes; 0 where the kind is no number
 unfoldable pub alignOf : ℕ → ℕ
@@ -21,13 +20,10 @@ alignOf k =
 unfoldable pub elementSizeOf : ℕ → ℕ
 elementSizeOf k = pick (among (4 ∷ 7 ∷ 9 ∷ []) k) 4 (pick (among (5 ∷ 8 ∷ 10 ∷ []) k) 8 1)
 
--- the kind of a row: "BYTE is stored as 13." "Sequences and arrays: kind 25". Other kinds are stored as their own
+-- the kind of a row: "BYTE is stored as 13." "Sequences and arrays: kind 25". Any other of the 28 has its own; of a bitmask
+-- `bitmaskStored` is asked and not this; and what is none of them has NONE's
 unfoldable pub storedOf : ℕ → ℕ
 storedOf k = pick (eqb k 2) 13 (pick (eqb k 26) 25 (pick (within (0 ‥ 27) k) k 0))
-
--- a kind's entry
-abbrev pub entryOf : ℕ → Entry
-entryOf k = record { align = alignOf k; element = elementSizeOf k; stored = storedOf k }
 
 -- the kinds of numbers, 1 to 15: "CHAR16 counts as primitive", "ENUM and BITMASK" do not
 unfoldable pub isPrimitive : ℕ → Bool

@@ -1,218 +1,167 @@
-// What is known of a type by its kind alone: a table of 28 entries, and the kinds that a rule names.
+// What is known of a type by its kind alone: a table of 28 entries in three columns, and the kinds that a rule names. A column costs a third
+// of what a table of structs does, since the compiler builds a constant on the stack at each use.
 ghost use mathlib.Core.Path.{_≡_};
-ghost use Rattle.kinds.specs.Kinds.{entryOf, isPrimitive, isSigned, unsupportedMember, unsupportedElement, opens, storedByBound, bitmaskStored};
+ghost use Rattle.kinds.specs.Kinds.{alignOf, elementSizeOf, storedOf, isPrimitive, isSigned, unsupportedMember, unsupportedElement, opens, storedByBound, bitmaskStored};
 
 pub mod names;
 
 use names::ALIAS;
 use names::ANNOTATION;
+use names::BITMASK;
 use names::BITSET;
+use names::BOOLEAN;
+use names::CHAR8;
 use names::CHAR16;
 use names::ENUM;
+use names::FLOAT32;
+use names::FLOAT64;
+use names::FLOAT128;
 use names::INT8;
 use names::INT16;
 use names::INT32;
 use names::INT64;
 use names::MAP;
 use names::NONE;
+use names::SEQUENCE;
+use names::STRING8;
+use names::STRING16;
+use names::STRUCTURE;
 use names::UINT8;
 use names::UINT16;
 use names::UINT32;
 use names::UINT64;
 use names::UNION;
 
-pub struct Entry {
-    // What a number of this kind is aligned to: its own size. 0 for what is no number.
-    pub align: u8,
-    // What an XCDR2 lookup divides the length of a sequence of this kind by.
-    pub element: u8,
-    // The kind of its row.
-    pub stored: u8,
-}
-
-const KINDS: [Entry; 28] = [
-    // NONE
-    Entry {
-        align: 0,
-        element: 1,
-        stored: 0,
-    },
-    // BOOLEAN
-    Entry {
-        align: 1,
-        element: 1,
-        stored: 1,
-    },
-    // BYTE
-    Entry {
-        align: 1,
-        element: 1,
-        stored: 13,
-    },
-    // INT16
-    Entry {
-        align: 2,
-        element: 1,
-        stored: 3,
-    },
-    // INT32
-    Entry {
-        align: 4,
-        element: 4,
-        stored: 4,
-    },
-    // INT64
-    Entry {
-        align: 8,
-        element: 8,
-        stored: 5,
-    },
-    // UINT16
-    Entry {
-        align: 2,
-        element: 1,
-        stored: 6,
-    },
-    // UINT32
-    Entry {
-        align: 4,
-        element: 4,
-        stored: 7,
-    },
-    // UINT64
-    Entry {
-        align: 8,
-        element: 8,
-        stored: 8,
-    },
-    // FLOAT32
-    Entry {
-        align: 4,
-        element: 4,
-        stored: 9,
-    },
-    // FLOAT64
-    Entry {
-        align: 8,
-        element: 8,
-        stored: 10,
-    },
-    // FLOAT128
-    Entry {
-        align: 16,
-        element: 1,
-        stored: 11,
-    },
-    // INT8
-    Entry {
-        align: 1,
-        element: 1,
-        stored: 12,
-    },
-    // UINT8
-    Entry {
-        align: 1,
-        element: 1,
-        stored: 13,
-    },
-    // CHAR8
-    Entry {
-        align: 1,
-        element: 1,
-        stored: 14,
-    },
-    // CHAR16
-    Entry {
-        align: 2,
-        element: 1,
-        stored: 15,
-    },
-    // STRING8
-    Entry {
-        align: 0,
-        element: 1,
-        stored: 16,
-    },
-    // STRING16
-    Entry {
-        align: 0,
-        element: 1,
-        stored: 17,
-    },
-    // ALIAS
-    Entry {
-        align: 0,
-        element: 1,
-        stored: 18,
-    },
-    // BITMASK
-    Entry {
-        align: 0,
-        element: 1,
-        stored: 19,
-    },
-    // ANNOTATION
-    Entry {
-        align: 0,
-        element: 1,
-        stored: 20,
-    },
-    // ENUM
-    Entry {
-        align: 0,
-        element: 1,
-        stored: 21,
-    },
-    // STRUCTURE
-    Entry {
-        align: 0,
-        element: 1,
-        stored: 22,
-    },
-    // UNION
-    Entry {
-        align: 0,
-        element: 1,
-        stored: 23,
-    },
-    // BITSET
-    Entry {
-        align: 0,
-        element: 1,
-        stored: 24,
-    },
-    // SEQUENCE
-    Entry {
-        align: 0,
-        element: 1,
-        stored: 25,
-    },
-    // ARRAY
-    Entry {
-        align: 0,
-        element: 1,
-        stored: 25,
-    },
-    // MAP
-    Entry {
-        align: 0,
-        element: 1,
-        stored: 27,
-    },
+// What a number of each kind is aligned to: its own size. 0 for what is no number.
+const ALIGN: [u8; 28] = [
+    0, // NONE
+    1, // BOOLEAN
+    1, // BYTE
+    2, // INT16
+    4, // INT32
+    8, // INT64
+    2, // UINT16
+    4, // UINT32
+    8, // UINT64
+    4, // FLOAT32
+    8, // FLOAT64
+    16, // FLOAT128
+    1, // INT8
+    1, // UINT8
+    1, // CHAR8
+    2, // CHAR16
+    0, // STRING8
+    0, // STRING16
+    0, // ALIAS
+    0, // BITMASK
+    0, // ANNOTATION
+    0, // ENUM
+    0, // STRUCTURE
+    0, // UNION
+    0, // BITSET
+    0, // SEQUENCE
+    0, // ARRAY
+    0, // MAP
 ];
 
-// A code of 28 or more has NONE's entry.
-pub fn of_kind(kind: u8) -> Entry
-    ensures { λ r. ⌜ r ≡ entryOf kind ⌝ }
+// What an XCDR2 lookup divides the length of a sequence of each kind by.
+const ELEMENT: [u8; 28] = [
+    1, // NONE
+    1, // BOOLEAN
+    1, // BYTE
+    1, // INT16
+    4, // INT32
+    8, // INT64
+    1, // UINT16
+    4, // UINT32
+    8, // UINT64
+    4, // FLOAT32
+    8, // FLOAT64
+    1, // FLOAT128
+    1, // INT8
+    1, // UINT8
+    1, // CHAR8
+    1, // CHAR16
+    1, // STRING8
+    1, // STRING16
+    1, // ALIAS
+    1, // BITMASK
+    1, // ANNOTATION
+    1, // ENUM
+    1, // STRUCTURE
+    1, // UNION
+    1, // BITSET
+    1, // SEQUENCE
+    1, // ARRAY
+    1, // MAP
+];
+
+// The kind of its row.
+const STORED: [u8; 28] = [
+    NONE, // NONE
+    BOOLEAN, // BOOLEAN
+    UINT8, // BYTE
+    INT16, // INT16
+    INT32, // INT32
+    INT64, // INT64
+    UINT16, // UINT16
+    UINT32, // UINT32
+    UINT64, // UINT64
+    FLOAT32, // FLOAT32
+    FLOAT64, // FLOAT64
+    FLOAT128, // FLOAT128
+    INT8, // INT8
+    UINT8, // UINT8
+    CHAR8, // CHAR8
+    CHAR16, // CHAR16
+    STRING8, // STRING8
+    STRING16, // STRING16
+    ALIAS, // ALIAS
+    BITMASK, // BITMASK
+    ANNOTATION, // ANNOTATION
+    ENUM, // ENUM
+    STRUCTURE, // STRUCTURE
+    UNION, // UNION
+    BITSET, // BITSET
+    SEQUENCE, // SEQUENCE
+    SEQUENCE, // ARRAY
+    MAP, // MAP
+];
+
+// A code of 28 or more has what NONE has.
+pub fn align_of(kind: u8) -> u8
+    ensures { λ r. ⌜ r ≡ alignOf kind ⌝ }
 {
     let k = kind as usize;
-    if k < KINDS.len() { KINDS[k] } else { KINDS[0] }
+    if k < ALIGN.len() { ALIGN[k] } else { ALIGN[0] }
+}
+
+pub fn element_of(kind: u8) -> u8
+    ensures { λ r. ⌜ r ≡ elementSizeOf kind ⌝ }
+{
+    let k = kind as usize;
+    if k < ELEMENT.len() {
+        ELEMENT[k]
+    } else {
+        ELEMENT[0]
+    }
+}
+
+pub fn stored_of(kind: u8) -> u8
+    ensures { λ r. ⌜ r ≡ storedOf kind ⌝ }
+{
+    let k = kind as usize;
+    if k < STORED.len() {
+        STORED[k]
+    } else {
+        STORED[0]
+    }
 }
 
 pub fn is_primitive(kind: u8) -> bool
     ensures { λ r. ⌜ r ≡ isPrimitive kind ⌝ }
 {
-    (1 <= kind) & (kind <= 15)
+    (BOOLEAN <= kind) & (kind <= CHAR16)
 }
 
 pub fn is_signed(kind: u8) -> bool

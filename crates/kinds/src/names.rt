@@ -1,5 +1,7 @@
-// The kinds by their names in document 01, for the tests that a rule makes of a kind.
+// The kinds by their names in document 01.
 pub const NONE: u8 = 0;
+
+pub const BOOLEAN: u8 = 1;
 
 pub const BYTE: u8 = 2;
 
@@ -15,11 +17,23 @@ pub const UINT32: u8 = 7;
 
 pub const UINT64: u8 = 8;
 
+pub const FLOAT32: u8 = 9;
+
+pub const FLOAT64: u8 = 10;
+
+pub const FLOAT128: u8 = 11;
+
 pub const INT8: u8 = 12;
 
 pub const UINT8: u8 = 13;
 
+pub const CHAR8: u8 = 14;
+
 pub const CHAR16: u8 = 15;
+
+pub const STRING8: u8 = 16;
+
+pub const STRING16: u8 = 17;
 
 pub const ALIAS: u8 = 18;
 

@@ -21,8 +21,8 @@ use Rattle.wire.proofs.Numbers.{Moved, read-aligned}
 use Rattle.lookup.specs.Search.{pastValue, seekBy}
 use Rattle.lookup.specs.Xcdr1 as xcdr1
 use Rattle.lookup.specs.Xcdr2 as xcdr2
-use Rattle.lookup.specs.Member.{locatedV1, locatedV2, lookedUp, locate}
-use Rattle.lookup.specs.Ahead.{searched, askedFor, Leads, HeaderId, NextIs, aheadOf, AheadAt, AheadIs, valueAt, HeadAt, HeadOrEnd, LongHead, PassedTo}
+use Rattle.lookup.specs.Member.{askedFor, locatedV1, locatedV2, lookedUp, locate}
+use Rattle.lookup.specs.Code.Ahead.{searchBy, Leads, HeaderId, NextIs, aheadOf, AheadAt, AheadIs, valueAt, HeadAt, HeadOrEnd, LongHead, PassedTo}
 use Rattle.lookup.specs.declared.search.Seek.{Seek}
 use Rattle.lookup.specs.declared.search.Seek.the-variants.{Found, PidNotFound, Short}
 use Rattle.lookup.specs.declared.search.Turn.{Turn}
@@ -40,8 +40,8 @@ turnBy s set Xcdr1 id c = xcdr1.turnAt s set id c
 turnBy s set Xcdr2 id c = xcdr2.turnAt s set id c
 
 module _ (s : List ℕ) (set : Settings) where
-  by-turns : (v : Version) (id : ℕ) (c : Cursor) → searched s set v id c ≡ seekBy s (turnBy s set v id) c
-  unfolding searched turnBy xcdr1.seekToPid xcdr2.seekToPid
+  by-turns : (v : Version) (id : ℕ) (c : Cursor) → searchBy s set v id c ≡ seekBy s (turnBy s set v id) c
+  unfolding searchBy turnBy xcdr1.seekToPid xcdr2.seekToPid
   by-turns Xcdr1 id c = refl
   by-turns Xcdr2 id c = refl
 
@@ -141,44 +141,36 @@ module _ (s : List ℕ) (set : Settings) (pos origin : ℕ) (head : HeadAt s pos
 -- an XCDR2 header
 module _ (s : List ℕ) (set : Settings) (pos origin : ℕ) (head : HeadAt s pos origin) (version : set .version ≡ Xcdr2) (v : ℕ) (is : v ≡ numberAt (set .order) 0 s pos 4) where
   module _ (n : ℕ) (y : Cursor) (told : xcdr2.lengthOf s set v (cursorAt (pos + 4) origin) ≡ number.Got n y) where
-    turned2 : (w : ℕ) → xcdr2.turnAt s set w (cursorAt pos origin) ≡ xcdr2.judged s set w v n y
+    turned2 : (w : ℕ) → xcdr2.turnAt s set w (cursorAt pos origin) ≡ xcdr2.verdict s set w v n y
     unfolding xcdr2.turnAt afterNumber
     turned2 w = rw (read4 s set pos origin head, ← is, told)
 
-    judged2 : (w : ℕ) → turnBy s set (set .version) w (cursorAt pos origin) ≡ xcdr2.judged s set w v n y
+    judged2 : (w : ℕ) → turnBy s set (set .version) w (cursorAt pos origin) ≡ xcdr2.verdict s set w v n y
     judged2 w = by-turn2 s set (set .version) w (cursorAt pos origin) version ∙ turned2 w
 
-    ahead2 : (value next : ℕ) (r : Ahead) → r ≡ aheadOf value n next → xcdr2.steppedBack (xcdr2.lcOf v) y ≡ cursorAt value origin → y .origin ≡ origin → 0 < n → PassedTo s y n next → AheadIs s set (xcdr2.idOf v) (cursorAt pos origin) r
-    unfolding xcdr2.judged
+    ahead2 : (value next : ℕ) (r : Ahead) → r ≡ aheadOf value n next → xcdr2.valueFrom (xcdr2.lcOf v) y ≡ cursorAt value origin → y .origin ≡ origin → 0 < n → PassedTo s y n next → AheadIs s set (xcdr2.idOf v) (cursorAt pos origin) r
+    unfolding xcdr2.verdict
     ahead2 value next r e back kept some p =
         made s set (xcdr2.idOf v) (cursorAt pos origin) y n kept (own2 (set .version) v version) (λ w l. judged2 w ∙ (rw (ne-eqb (xcdr2.idOf v) w (let f = asked2 (set .version) w version in omega arith)))) value next r e
         (judged2 (xcdr2.idOf v) ∙ (rw (eq-eqb (xcdr2.idOf v) (xcdr2.idOf v) refl, back))) some p
 
   -- a length code below 4 tells the length
-  pub ahead-told : (lc n next id : ℕ) → lc ≡ xcdr2.lcOf v → lc < 4 → n ≡ xcdr2.toldBy lc → 0 < n → xcdr2.idOf v ≡ id → PassedTo s (cursorAt (pos + 4) origin) n next
-      → (r : Ahead) → r ≡ aheadOf (pos + 4) n next → AheadIs s set id (cursorAt pos origin) r
-  unfolding xcdr2.lengthOf xcdr2.lengthByLc xcdr2.steppedBack
-  ahead-told lc n next id c l e some i p r f =
-      rw (← i) (ahead2 n (cursorAt (pos + 4) origin) (rw (← c, lt-ltb _ _ l, ← e)) (pos + 4) next r f (rw (← c, ne-eqb lc 5 (omega arith))) refl some p)
+  pub ahead-fixed : (lc n next i id b : ℕ) → lc ≡ xcdr2.lcOf v → lc < 4 → n ≡ xcdr2.fixedLength lc → 0 < n → i ≡ xcdr2.idOf v → i ≡ id → PassedTo s (cursorAt (pos + 4) origin) n next → b ≡ xcdr2.stepBack lc
+      → (r : Ahead) → r ≡ aheadOf (pos + 4 - b) n next → AheadIs s set id (cursorAt pos origin) r
+  unfolding xcdr2.lengthOf xcdr2.lengthByLc
+  ahead-fixed lc n next i id b c l e some named wanted p back r f =
+      rw (← wanted, named) (ahead2 n (cursorAt (pos + 4) origin) (rw (← c, lt-ltb _ _ l, ← e)) (pos + 4 - b) next r f (rw (← c, ← back)) refl some p)
 
 -- a length code from 4 on has it in NEXTINT
-module _ (s : List ℕ) (set : Settings) (v pos origin : ℕ) (long : LongHead s set v pos origin) (there : 4 ≤ length s - (pos + 4)) (m u : ℕ) (is : m ≡ numberAt (set .order) 0 s (pos + 4) 4) (unit : u ≡ xcdr2.unitBy (xcdr2.lcOf v)) (some : m * u ≡ 0 → ⊥) where
+module _ (s : List ℕ) (set : Settings) (v pos origin : ℕ) (long : LongHead s set v pos origin) (there : 4 ≤ length s - (pos + 4)) (m u : ℕ) (is : m ≡ numberAt (set .order) 0 s (pos + 4) 4) (lc : ℕ) (code : lc ≡ xcdr2.lcOf v) (unit : u ≡ xcdr2.unitOf lc) (some : m * u ≡ 0 → ⊥) where
   told-long : xcdr2.lengthOf s set v (cursorAt (pos + 4) origin) ≡ number.Got (m * u) (cursorAt (pos + 4 + 4) origin)
   unfolding xcdr2.lengthOf xcdr2.lengthByLc xcdr2.nextintTimes afterNumber
-  told-long = rw (le-ltb _ _ (long .code), read4 s set (pos + 4) origin (nextint-head s set pos origin (long .head) there), ← is, ← unit)
+  told-long = rw (le-ltb _ _ (long .code), read4 s set (pos + 4) origin (nextint-head s set pos origin (long .head) there), ← is, ← code, ← unit)
 
-  pub ahead-back : (next : ℕ) → xcdr2.lcOf v ≡ 5 → PassedTo s (cursorAt (pos + 4 + 4) origin) (m * u) next
-      → (r : Ahead) → r ≡ aheadOf (pos + 4) (m * u) next → AheadIs s set (xcdr2.idOf v) (cursorAt pos origin) r
-  unfolding xcdr2.steppedBack
-  ahead-back next five p r f =
-      let e : pos + 4 + 4 - 4 ≡ pos + 4 = omega arith in
-      ahead2 s set pos origin (long .head) (long .version) v (long .is) (m * u) _ told-long (pos + 4) next r f (rw (eq-eqb (xcdr2.lcOf v) 5 five) (ap (λ (x : ℕ). cursorAt x origin) e)) refl (omega arith) p
-
-  pub ahead-long : (next : ℕ) → (xcdr2.lcOf v ≡ 5 → ⊥) → PassedTo s (cursorAt (pos + 4 + 4) origin) (m * u) next
-      → (r : Ahead) → r ≡ aheadOf (pos + 4 + 4) (m * u) next → AheadIs s set (xcdr2.idOf v) (cursorAt pos origin) r
-  unfolding xcdr2.steppedBack
-  ahead-long next other p r f =
-      ahead2 s set pos origin (long .head) (long .version) v (long .is) (m * u) _ told-long (pos + 4 + 4) next r f (rw (ne-eqb (xcdr2.lcOf v) 5 other)) refl (omega arith) p
+  pub ahead-long : (next b : ℕ) → PassedTo s (cursorAt (pos + 4 + 4) origin) (m * u) next → b ≡ xcdr2.stepBack lc
+      → (r : Ahead) → r ≡ aheadOf (pos + 4 + 4 - b) (m * u) next → AheadIs s set (xcdr2.idOf v) (cursorAt pos origin) r
+  ahead-long next b p back r f =
+      ahead2 s set pos origin (long .head) (long .version) v (long .is) (m * u) _ told-long (pos + 4 + 4 - b) next r f (rw (← code, ← back)) refl (omega arith) p
 
 -- a value that is not empty is not the end
 not-end : (id n : ℕ) → (n ≡ 0 → ⊥) → xcdr1.isEnd id n ≡ false
@@ -206,17 +198,18 @@ module _ (s : List ℕ) (set : Settings) (pos origin : ℕ) (head : HeadAt s pos
       rw (read2 pos (omega arith) (omega arith), read2 (pos + 2) (omega arith) (omega arith), e)
 
   module _ (v n : ℕ) (is : v ≡ numberAt (set .order) 0 s pos 2) (told : n ≡ numberAt (set .order) 0 s (pos + 2) 2) where
-    turned1 : (w : ℕ) → xcdr1.turnAt s set w (cursorAt pos origin) ≡ xcdr1.judged s set w (v % 16384) n (cursorAt (pos + 4) origin)
+    turned1 : (w : ℕ) → xcdr1.turnAt s set w (cursorAt pos origin) ≡ xcdr1.verdict s set w (v % 16384) n (cursorAt (pos + 4) origin)
     unfolding xcdr1.turnAt xcdr1.onHeader
     turned1 w = rw (header1, ← is, ← told)
 
-    judged1 : (w : ℕ) → turnBy s set (set .version) w (cursorAt pos origin) ≡ xcdr1.judged s set w (v % 16384) n (cursorAt (pos + 4) origin)
+    judged1 : (w : ℕ) → turnBy s set (set .version) w (cursorAt pos origin) ≡ xcdr1.verdict s set w (v % 16384) n (cursorAt (pos + 4) origin)
     judged1 w = by-turn1 s set (set .version) w (cursorAt pos origin) version ∙ turned1 w
 
-    pub ahead1 : (id next : ℕ) → v % 16384 ≡ id → (n ≡ 0 → ⊥) → PassedTo s (cursorAt (pos + 4) origin) n next
+    pub ahead1 : (i id next : ℕ) → i ≡ xcdr1.idOf v → i ≡ id → (n ≡ 0 → ⊥) → PassedTo s (cursorAt (pos + 4) origin) n next
         → (r : Ahead) → r ≡ aheadOf (pos + 4) n next → AheadIs s set id (cursorAt pos origin) r
-    unfolding xcdr1.judged
-    ahead1 id next e some p r f =
+    unfolding xcdr1.verdict
+    ahead1 i id next named wanted some p r f =
+        let e : v % 16384 ≡ id = sym named ∙ wanted in
         let on : xcdr1.isEnd (v % 16384) n ≡ false = not-end (v % 16384) n some in
         rw (← e)
         (made s set (v % 16384) (cursorAt pos origin) (cursorAt (pos + 4) origin) n refl (own1 (set .version) v version)
@@ -228,18 +221,8 @@ pub ahead-none : (s : List ℕ) (set : Settings) (id : ℕ) (at : Cursor) (r : A
 unfolding AheadIs AheadAt
 ahead-none s set id at r e = rw e tt
 
-pub ahead-same : (s : List ℕ) (set : Settings) (id wanted : ℕ) (at : Cursor) (r : Ahead) → id ≡ wanted → AheadIs s set id at r → AheadIs s set wanted at r
-ahead-same s set id wanted at r e h = rw e at h
-
--- the lengths and the units by the length code
-pub told-last : (lc : ℕ) → lc < 4 → (lc ≡ 0 → ⊥) → (lc ≡ 1 → ⊥) → (lc ≡ 2 → ⊥) → _≡_ {A = ℕ} 8 (xcdr2.toldBy lc)
-told-last lc h a b c = let e : lc ≡ 3 = omega arith in rw e
-
-pub unit-at : (lc k u : ℕ) → lc ≡ k → u ≡ xcdr2.unitBy k → u ≡ xcdr2.unitBy lc
-unit-at lc k u e f = rw e f
-
-pub unit-last : (lc : ℕ) → 4 ≤ lc → lc < 8 → (lc ≡ 4 → ⊥) → (lc ≡ 5 → ⊥) → (lc ≡ 6 → ⊥) → _≡_ {A = ℕ} 8 (xcdr2.unitBy lc)
-unit-last lc l h a b c = let e : lc ≡ 7 = omega arith in rw e
+pub ahead-same : (s : List ℕ) (set : Settings) (v i wanted : ℕ) (at : Cursor) (r : Ahead) → i ≡ xcdr2.idOf v → i ≡ wanted → AheadIs s set (xcdr2.idOf v) at r → AheadIs s set wanted at r
+ahead-same s set v i wanted at r e f h = rw (← f, e) h
 
 -- where a found value is read
 module _ (version : Version) (pos origin : ℕ) (r : Cursor) where
@@ -253,8 +236,8 @@ module _ (version : Version) (pos origin : ℕ) (r : Cursor) where
 
 -- what the callers have of it: the lookup, and the place to ask for the next member
 module _ (s : List ℕ) (set : Settings) where
-  looked : (ver : Version) (id n v o : ℕ) (back : Cursor) → searched s set ver id back ≡ Found n (cursorAt v o) → 0 < n → lookedUp s set ver id back ≡ located.Found n (valueAt ver v o) back
-  unfolding searched lookedUp locatedV1 locatedV2 valueAt
+  looked : (ver : Version) (id n v o : ℕ) (back : Cursor) → searchBy s set ver id back ≡ Found n (cursorAt v o) → 0 < n → lookedUp s set ver id back ≡ located.Found n (valueAt ver v o) back
+  unfolding searchBy lookedUp locatedV1 locatedV2 valueAt
   looked Xcdr1 id n v o back e h = rw (e, lt-ltb _ _ h)
   looked Xcdr2 id n v o back e h = rw e
 
@@ -281,17 +264,17 @@ module _ (s : List ℕ) (set : Settings) where
   unfolding AheadIs AheadAt NextIs
   ahead-place id v at r is some = let a = rw some at is in a .3 .0
 
-  by-v1 : (ver : Version) (id : ℕ) (a b : Cursor) → ver ≡ Xcdr1 → searched s set ver id a ≡ searched s set ver id b → xcdr1.seekToPid s set id a ≡ xcdr1.seekToPid s set id b
-  unfolding searched
+  by-v1 : (ver : Version) (id : ℕ) (a b : Cursor) → ver ≡ Xcdr1 → searchBy s set ver id a ≡ searchBy s set ver id b → xcdr1.seekToPid s set id a ≡ xcdr1.seekToPid s set id b
+  unfolding searchBy
   by-v1 ver id a b v e = rw v at e
 
   pub lead-sentinel : (from to : Cursor) (least : ℕ) → set .version ≡ Xcdr1 → Leads s set from to least → least ≤ 0x3F02 → xcdr1.seekToSentinel s set from ≡ xcdr1.seekToSentinel s set to
-  unfolding Leads xcdr1.seekToSentinel xcdr1.standing
+  unfolding Leads xcdr1.seekToSentinel xcdr1.sentinelPlace
   lead-sentinel from to least v leads l =
       let e = by-v1 (set .version) 0x3F02 from to v (leads 0x3F02 (let f = asked1 (set .version) 0x3F02 v in omega arith)) in
       rw e (go (xcdr1.seekToPid s set 0x3F02 to) refl)
     where
-      go : (f : Seek) → xcdr1.seekToPid s set 0x3F02 to ≡ f → xcdr1.standing from f ≡ xcdr1.standing to f
+      go : (f : Seek) → xcdr1.seekToPid s set 0x3F02 to ≡ f → xcdr1.sentinelPlace from f ≡ xcdr1.sentinelPlace to f
       go (Found n d) e = refl
       go (Short x) e = refl
       go PidNotFound e = absurd (turns1.sentinel-never-missing s set to e)

@@ -15,13 +15,13 @@ use Rattle.lookup.specs.Search.{pastValue, onTurn, headersIn}
 use Rattle.lookup.specs.Xcdr1 as xcdr1
 use Rattle.lookup.specs.Xcdr2 as xcdr2
 use Rattle.lookup.specs.Member.{locatedV1, locatedV2, lookedUp, locate}
-use Rattle.lookup.specs.Dheader.{endingAt}
+use Rattle.wire.specs.Dheader.{dheaderAt}
 use Rattle.lookup.specs.declared.search.Seek.{Seek}
 use Rattle.lookup.specs.declared.search.Seek.the-variants as seek
 use Rattle.lookup.specs.declared.member.Located.{Located}
 use Rattle.lookup.specs.declared.member.Located.the-variants as located
-use Rattle.lookup.specs.declared.dheader.Ending.{Ending}
-use Rattle.lookup.specs.declared.dheader.Ending.the-variants as ending
+use Rattle.wire.specs.declared.dheader.Contents.{Contents}
+use Rattle.wire.specs.declared.dheader.Contents.the-variants as contents
 
 abbrev le1 : Settings
 le1 = settings LittleEndian Xcdr1
@@ -65,24 +65,24 @@ start = cursorAt 0 0
 
 -- the definitions with all that they rest on open
 unfoldable locates : List ℕ → Settings → ℕ → Cursor → Located
-unfolding locate lookedUp locatedV1 locatedV2 xcdr1.seekToPid xcdr1.turnAt xcdr1.onHeader xcdr1.judged xcdr1.headerAt xcdr2.seekToPid xcdr2.turnAt xcdr2.judged xcdr2.steppedBack xcdr2.lengthOf xcdr2.lengthByLc xcdr2.nextintTimes headersIn onTurn pastValue afterMove afterNumber readNumber onAligned numberHere onBytes numberAt alignTo seekTo paddingOf alignmentOf
+unfolding locate lookedUp locatedV1 locatedV2 xcdr1.seekToPid xcdr1.turnAt xcdr1.onHeader xcdr1.verdict xcdr1.headerAt xcdr2.seekToPid xcdr2.turnAt xcdr2.verdict xcdr2.stepBack xcdr2.lengthOf xcdr2.lengthByLc xcdr2.nextintTimes headersIn onTurn pastValue afterMove afterNumber readNumber onAligned numberHere onBytes numberAt alignTo seekTo paddingOf alignmentOf
 locates s set id c = locate s set id c
 
 unfoldable seeks1 : List ℕ → ℕ → Seek
-unfolding xcdr1.seekToPid xcdr1.turnAt xcdr1.onHeader xcdr1.judged xcdr1.headerAt headersIn onTurn pastValue afterMove afterNumber readNumber onAligned numberHere onBytes numberAt alignTo seekTo paddingOf alignmentOf
+unfolding xcdr1.seekToPid xcdr1.turnAt xcdr1.onHeader xcdr1.verdict xcdr1.headerAt headersIn onTurn pastValue afterMove afterNumber readNumber onAligned numberHere onBytes numberAt alignTo seekTo paddingOf alignmentOf
 seeks1 s id = xcdr1.seekToPid s le1 id start
 
 unfoldable seeks2 : List ℕ → ℕ → Seek
-unfolding xcdr2.seekToPid xcdr2.turnAt xcdr2.judged xcdr2.steppedBack xcdr2.lengthOf xcdr2.lengthByLc xcdr2.nextintTimes headersIn onTurn pastValue afterMove afterNumber readNumber onAligned numberHere onBytes numberAt alignTo seekTo paddingOf alignmentOf
+unfolding xcdr2.seekToPid xcdr2.turnAt xcdr2.verdict xcdr2.stepBack xcdr2.lengthOf xcdr2.lengthByLc xcdr2.nextintTimes headersIn onTurn pastValue afterMove afterNumber readNumber onAligned numberHere onBytes numberAt alignTo seekTo paddingOf alignmentOf
 seeks2 s id = xcdr2.seekToPid s le2 id start
 
 unfoldable seeksSentinel : List ℕ → Cursor → Place
-unfolding xcdr1.seekToSentinel xcdr1.standing xcdr1.seekToPid xcdr1.turnAt xcdr1.onHeader xcdr1.judged xcdr1.headerAt headersIn onTurn pastValue afterMove afterNumber readNumber onAligned numberHere onBytes numberAt alignTo seekTo paddingOf alignmentOf
+unfolding xcdr1.seekToSentinel xcdr1.sentinelPlace xcdr1.seekToPid xcdr1.turnAt xcdr1.onHeader xcdr1.verdict xcdr1.headerAt headersIn onTurn pastValue afterMove afterNumber readNumber onAligned numberHere onBytes numberAt alignTo seekTo paddingOf alignmentOf
 seeksSentinel s c = xcdr1.seekToSentinel s le1 c
 
-unfoldable ends : List ℕ → Ending
-unfolding endingAt afterMove afterNumber readNumber onAligned numberHere onBytes numberAt alignTo seekTo paddingOf alignmentOf
-ends s = endingAt s le2 start
+unfoldable ends : List ℕ → Contents
+unfolding dheaderAt afterMove afterNumber readNumber onAligned numberHere onBytes numberAt alignTo seekTo paddingOf alignmentOf
+ends s = dheaderAt s le2 start
 
 -- 8: found at 4; the structure's own search ends after the marker, and with the first 8 bytes only it is short there
 example-8 :
@@ -101,14 +101,14 @@ example-9 = (refl, refl)
 
 -- 10: LC 4, found after NEXTINT with length 8
 example-10 :
-    (ends data10 ≡ ending.At 20 (cursorAt 4 0))
+    (ends data10 ≡ contents.Between (cursorAt 4 0) 20)
     × (locates data10 le2 1 (cursorAt 4 0) ≡ located.Found 8 (cursorAt 12 0) (cursorAt 4 0))
 unfolding ends locates
 example-10 = (refl, refl)
 
 -- 12: LC 5, stepped back to NEXTINT
 example-12 :
-    (ends data12 ≡ ending.At 14 (cursorAt 4 0))
+    (ends data12 ≡ contents.Between (cursorAt 4 0) 14)
     × (locates data12 le2 1 (cursorAt 4 0) ≡ located.Found 2 (cursorAt 8 0) (cursorAt 4 0))
 unfolding ends locates
 example-12 = (refl, refl)

@@ -1,11 +1,9 @@
--- The lookup of a member and the DHEADER: a law for each way through. Assumes nothing.
-use Prim.Native.Nat.{ℕ, _+_, _<_, _≤_, _^_}
+-- The lookup of a member: a law for each way through. Assumes nothing.
+use Prim.Native.Nat.{ℕ, _<_, _≤_}
 use mathlib.Core.Path.{_≡_, sym, _∙_}
 use mathlib.Core.List.{List}
-use lib.ListN.{length}
 use borrow.Author.Tests.{lt-ltb, le-ltb}
-use Rattle.wire.specs.Place.{cursorAt, alignmentOf, paddingOf, alignTo, afterMove}
-use Rattle.wire.specs.Number.{numberAt, ReadIs, afterNumber}
+use Rattle.wire.specs.Place.{cursorAt, alignTo, afterMove}
 use Rattle.wire.specs.declared.settings.Settings.{Settings}
 use Rattle.wire.specs.declared.settings.Version.{Version}
 use Rattle.wire.specs.declared.settings.Version.the-variants.{Xcdr1, Xcdr2}
@@ -13,18 +11,13 @@ use Rattle.wire.specs.declared.cursor.Cursor.{Cursor}
 use Rattle.wire.specs.declared.cursor.Shortage.{Shortage}
 use Rattle.wire.specs.declared.cursor.Place.{Place}
 use Rattle.wire.specs.declared.cursor.Place.the-variants as place
-use Rattle.wire.specs.declared.number.Number.{Number}
-use Rattle.wire.specs.declared.number.Number.the-variants as number
-use Rattle.wire.proofs.Numbers.{read-inv, read-there}
 use Rattle.lookup.specs.Xcdr1 as xcdr1
 use Rattle.lookup.specs.Xcdr2 as xcdr2
 use Rattle.lookup.specs.Member.{locatedV1, locatedV2, lookedUp, locate}
-use Rattle.lookup.specs.Dheader.{endingAt}
 use Rattle.lookup.specs.declared.search.Seek.{Seek}
 use Rattle.lookup.specs.declared.search.Seek.the-variants as seek
 use Rattle.lookup.specs.declared.member.Located.{Located}
 use Rattle.lookup.specs.declared.member.Located.the-variants as located
-use Rattle.lookup.specs.declared.dheader.Ending.the-variants as ending
 
 -- what a search says of a member
 module _ (f : Seek) (back : Cursor) where
@@ -80,22 +73,3 @@ module _ (s : List ℕ) (set : Settings) (id : ℕ) (c : Cursor) (p : Place) (is
     pub locate-v2 : set .version ≡ Xcdr2 → f ≡ xcdr2.seekToPid s set id back → l ≡ locatedV2 f back → l ≡ locate s set id c
     unfolding locate afterMove
     locate-v2 v e g = rw (sym is ∙ at) ((rw e at g) ∙ by-v2 s set id back (set .version) v)
-
--- the DHEADER: all there, read, or short
-pub ending-there : (s : List ℕ) (set : Settings) (c : Cursor) (q n : ℕ) (d : Cursor) → (q + 4 ≤ length s → q ≡ c .pos + paddingOf c (alignmentOf (set .version) 4)) → q + 4 ≤ length s → n ≡ numberAt (set .order) 0 s q 4 → d ≡ cursorAt (q + 4) (c .origin)
-    → ending.At (q + 4 + n) d ≡ endingAt s set c
-unfolding endingAt afterNumber
-ending-there s set c q n d starts h is e = rw (e, read-there s set c 4 q n (starts h) h is)
-
-module _ (s : List ℕ) (set : Settings) (c : Cursor) (r : Number) (is : ReadIs s set c 4 r) where
-  pub ending-short : (x : Shortage) → r ≡ number.Short x → ending.Short x ≡ endingAt s set c
-  unfolding endingAt afterNumber
-  ending-short x e = rw (sym (is .is) ∙ e)
-
-  pub ending-at : (n : ℕ) (d : Cursor) → r ≡ number.Got n d → ending.At (d .pos + n) d ≡ endingAt s set c
-  unfolding endingAt afterNumber
-  ending-at n d e = rw (sym (is .is) ∙ e)
-
-  -- what is summed: a position inside the data, and a u32
-  pub ending-parts : (n : ℕ) (d : Cursor) → r ≡ number.Got n d → (d .pos ≤ length s) × (n < 256 ^ 4)
-  ending-parts n d e = (read-inv s set c 4 n d (sym (is .is) ∙ e) .inside, (rw e at (is .small)))

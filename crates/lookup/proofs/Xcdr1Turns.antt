@@ -8,7 +8,8 @@ use native.Mathlib.Omega.{arith}
 use lib.Dec.{eqb}
 use borrow.Author.Tests.{eq-eqb, ne-eqb}
 use Rattle.ground.proofs.Tests.{and-both}
-use Rattle.wire.specs.Number.{readNumber, ReadIs, afterNumber}
+use Rattle.wire.specs.Number.{readNumber, afterNumber}
+use Rattle.wire.specs.Code.Reads.{ReadIs}
 use Rattle.wire.specs.declared.settings.Settings.{Settings}
 use Rattle.wire.specs.declared.cursor.Cursor.{Cursor}
 use Rattle.wire.specs.declared.cursor.Shortage.{Shortage}
@@ -18,7 +19,7 @@ use Rattle.wire.specs.declared.number.Number.{Number}
 use Rattle.wire.specs.declared.number.Number.the-variants as number
 use Rattle.wire.proofs.Numbers.{Moved, read-inv, number-inv}
 use Rattle.lookup.specs.Search.{pastValue}
-use Rattle.lookup.specs.Xcdr1.{headerAt, isEnd, ended, isMatch, judged, onHeader, turnAt, seekToPid, standing, seekToSentinel}
+use Rattle.lookup.specs.Xcdr1.{idOf, headerAt, isEnd, ended, isMatch, verdict, onHeader, turnAt, seekToPid, sentinelPlace, seekToSentinel}
 use Rattle.lookup.specs.declared.search.Seek.{Seek}
 use Rattle.lookup.specs.declared.search.Seek.the-variants.{Found, PidNotFound, Short}
 use Rattle.lookup.specs.declared.search.Turn.{Turn}
@@ -38,9 +39,9 @@ module _ (s : List ℕ) (set : Settings) (c : Cursor) (r : Number) (is : ReadIs 
     unfolding headerAt afterNumber
     header-no-length x e = rw (sym (is .is) ∙ first, sym (then .is) ∙ e)
 
-    pub header-got : (n : ℕ) (y : Cursor) → q ≡ number.Got n y → header.Got (id % 16384) n y ≡ headerAt s set c
+    pub header-got : (n : ℕ) (y : Cursor) → q ≡ number.Got n y → (i : ℕ) → i ≡ idOf id → header.Got i n y ≡ headerAt s set c
     unfolding headerAt afterNumber
-    header-got n y e = rw (sym (is .is) ∙ first, sym (then .is) ∙ e)
+    header-got n y e i j = rw (j, sym (is .is) ∙ first, sym (then .is) ∙ e)
 
 -- the code's test of the end
 is-end : (id n : ℕ) (t : Bool) → (eqb id 0x3F02 && eqb n 0) ≡ t → isEnd id n ≡ t
@@ -54,19 +55,19 @@ module _ (s : List ℕ) (set : Settings) (wanted : ℕ) (c : Cursor) (h : Header
 
   module _ (id n : ℕ) (d : Cursor) (got : h ≡ header.Got id n d) where
     pub turn-found-end : (eqb id 0x3F02 && eqb n 0) ≡ true → wanted ≡ 0x3F02 → Done (Found 0 d) ≡ turnAt s set wanted c
-    unfolding turnAt onHeader judged
+    unfolding turnAt onHeader verdict
     turn-found-end t e = rw (sym is ∙ got, is-end id n _ t, eq-eqb _ _ e)
 
     pub turn-ended : (eqb id 0x3F02 && eqb n 0) ≡ true → (wanted ≡ 0x3F02 → ⊥) → Done PidNotFound ≡ turnAt s set wanted c
-    unfolding turnAt onHeader judged
+    unfolding turnAt onHeader verdict
     turn-ended t e = rw (sym is ∙ got, is-end id n _ t, ne-eqb _ _ e)
 
     pub turn-found : (eqb id 0x3F02 && eqb n 0) ≡ false → id ≡ wanted % 65536 → Done (Found n d) ≡ turnAt s set wanted c
-    unfolding turnAt onHeader judged
+    unfolding turnAt onHeader verdict
     turn-found t e = rw (sym is ∙ got, is-end id n _ t, eq-eqb _ _ e)
 
     pub turn-past : (t : Turn) → (eqb id 0x3F02 && eqb n 0) ≡ false → (id ≡ wanted % 65536 → ⊥) → t ≡ pastValue s set d n → t ≡ turnAt s set wanted c
-    unfolding turnAt onHeader judged
+    unfolding turnAt onHeader verdict
     turn-past t f e g = rw (sym is ∙ got, is-end id n _ f, ne-eqb _ _ e) g
 
 -- a header moves the cursor on, by its four bytes at least and not past the end
@@ -85,7 +86,7 @@ module _ (s : List ℕ) (set : Settings) where
       rw (got-same _ _ (b .1) id n d (b .3)) at (then-moved (read-inv s set c 2 (a .0) (a .1) (a .2)) (read-inv s set (a .1) 2 (b .0) (b .1) (b .2)))
 
   header-turn-moves : (wanted : ℕ) (c y : Cursor) (h : Header) → headerAt s set c ≡ h → onHeader s set wanted h ≡ On y → Moved s c 4 y
-  unfolding onHeader judged
+  unfolding onHeader verdict
   header-turn-moves wanted c y (header.Short x) f e = absurd (done-on (Short x) y e)
   header-turn-moves wanted c y (header.Got id n d) f e =
       then-moved (header-moves c id n d f)
@@ -98,7 +99,7 @@ module _ (s : List ℕ) (set : Settings) where
 -- the search for 0x3F02 itself is never told that there is none
 module _ (s : List ℕ) (set : Settings) where
   header-there : (h : Header) → onHeader s set 0x3F02 h ≡ Done PidNotFound → ⊥
-  unfolding onHeader judged
+  unfolding onHeader verdict
   header-there (header.Short x) e = short-done x e
   header-there (header.Got id n c) e =
       pick-never (isEnd id n) (Done (Found 0 c)) _ (Done PidNotFound) (found-done 0 c)
@@ -115,11 +116,11 @@ module _ (s : List ℕ) (set : Settings) where
 -- where it stands
 module _ (s : List ℕ) (set : Settings) (c : Cursor) (f : Seek) (is : f ≡ seekToPid s set 0x3F02 c) where
   pub sentinel-found : (n : ℕ) (d : Cursor) → f ≡ Found n d → place.At d ≡ seekToSentinel s set c
-  unfolding seekToSentinel standing
+  unfolding seekToSentinel sentinelPlace
   sentinel-found n d e = rw (sym is ∙ e)
 
   pub sentinel-short : (x : Shortage) → f ≡ Short x → place.Short x ≡ seekToSentinel s set c
-  unfolding seekToSentinel standing
+  unfolding seekToSentinel sentinelPlace
   sentinel-short x e = rw (sym is ∙ e)
 
   pub sentinel-not : (r : Place) → f ≡ PidNotFound → r ≡ seekToSentinel s set c

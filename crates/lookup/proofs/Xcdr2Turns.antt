@@ -1,6 +1,6 @@
 -- The XCDR2 search: a law for each way through its functions, that a header moves on, and that no header ends the search. Assumes
 -- nothing.
-use Prim.Native.Nat.{ℕ, _-_, _*_, _<_, _≤_, _%_, _^_}
+use Prim.Native.Nat.{ℕ, _-_, _*_, _<_, _≤_, _^_}
 use mathlib.Core.Path.{_≡_, sym, ap, _∙_}
 use mathlib.Core.Bool.{Bool, true, false}
 use mathlib.Core.List.{List}
@@ -8,11 +8,11 @@ use native.Mathlib.Omega.{arith}
 use native.Mathlib.Nat.{mul-le-mul, le-of-lt}
 use lib.ListN.{length}
 use lib.Dec.{eqb, ltb}
-use borrow.Author.Tests.{eq-eqb, ne-eqb}
+use borrow.Author.Tests.{eq-eqb, ne-eqb, lt-ltb, le-ltb}
 use Rattle.ground.specs.Choice.{pick}
-use Rattle.ground.proofs.Between.{past3}
 use Rattle.wire.specs.Place.{cursorAt}
-use Rattle.wire.specs.Number.{readNumber, ReadIs, afterNumber}
+use Rattle.wire.specs.Number.{readNumber, afterNumber}
+use Rattle.wire.specs.Code.Reads.{ReadIs}
 use Rattle.wire.specs.declared.settings.Settings.{Settings}
 use Rattle.wire.specs.declared.cursor.Cursor.{Cursor}
 use Rattle.wire.specs.declared.cursor.Shortage.{Shortage}
@@ -20,7 +20,7 @@ use Rattle.wire.specs.declared.number.Number.{Number}
 use Rattle.wire.specs.declared.number.Number.the-variants as number
 use Rattle.wire.proofs.Numbers.{Moved, short-got, read-inv, number-inv}
 use Rattle.lookup.specs.Search.{ranShort, pastValue}
-use Rattle.lookup.specs.Xcdr2.{idOf, lcOf, nextintTimes, lengthByLc, lengthOf, steppedBack, judged, turnAt, seekToPid}
+use Rattle.lookup.specs.Xcdr2.{idOf, lcOf, fixedLength, unitOf, nextintTimes, lengthByLc, lengthOf, stepBack, valueFrom, verdict, turnAt, seekToPid}
 use Rattle.lookup.specs.declared.search.Seek.the-variants.{Found, PidNotFound, Short}
 use Rattle.lookup.specs.declared.search.Turn.{Turn}
 use Rattle.lookup.specs.declared.search.Turn.the-variants.{Done, On}
@@ -47,19 +47,33 @@ module _ (s : List ℕ) (set : Settings) (unit : ℕ) (c : Cursor) (r : Number) 
   nextint-fits n d h e = times-word n unit (rw e at (is .small)) h
 
 -- the length, by the length code
-pub by-code : (s : List ℕ) (set : Settings) (v lc : ℕ) (c : Cursor) → lc ≡ lcOf v → (k : ℕ) (r : Number) → lc ≡ k → r ≡ lengthByLc s set k c → r ≡ lengthOf s set v c
-unfolding lengthOf
-by-code s set v lc c is k r e f = rw (sym is ∙ e) f
+module _ (s : List ℕ) (set : Settings) (v lc : ℕ) (c : Cursor) (code : lc ≡ lcOf v) where
+  pub length-fixed : lc < 4 → (n : ℕ) → n ≡ fixedLength lc → number.Got n c ≡ lengthOf s set v c
+  unfolding lengthOf lengthByLc
+  length-fixed h n e = rw (← code, lt-ltb _ _ h, e)
 
--- of eight codes the last is none of the others
-past6 : (lc : ℕ) → 3 < lc → (lc ≡ 4 → ⊥) → (lc ≡ 5 → ⊥) → (lc ≡ 6 → ⊥) → 6 < lc
-past6 lc h n4 n5 n6 = omega arith
+  pub length-nextint : 4 ≤ lc → (u : ℕ) → u ≡ unitOf lc → (r : Number) → r ≡ nextintTimes s set u c → r ≡ lengthOf s set v c
+  unfolding lengthOf lengthByLc
+  length-nextint h u e r f = rw (← code, le-ltb _ _ h, ← e) f
 
-last : (v lc : ℕ) → lc ≡ lcOf v → 6 < lc → lc ≡ 7
-last v lc is h = omega arith
+-- the lengths and the units by the length code
+pub fixed-last : (lc : ℕ) → lc < 4 → (lc ≡ 0 → ⊥) → (lc ≡ 1 → ⊥) → (lc ≡ 2 → ⊥) → _≡_ {A = ℕ} 8 (fixedLength lc)
+fixed-last lc h a b c = let e : lc ≡ 3 = omega arith in rw e
 
-pub seven : (v lc : ℕ) → lc ≡ lcOf v → (lc ≡ 0 → ⊥) → (lc ≡ 1 → ⊥) → (lc ≡ 2 → ⊥) → (lc ≡ 3 → ⊥) → (lc ≡ 4 → ⊥) → (lc ≡ 5 → ⊥) → (lc ≡ 6 → ⊥) → lc ≡ 7
-seven v lc is n0 n1 n2 n3 n4 n5 n6 = last v lc is (past6 lc (past3 lc n0 n1 n2 n3) n4 n5 n6)
+pub unit-at : (lc k u : ℕ) → lc ≡ k → u ≡ unitOf k → u ≡ unitOf lc
+unit-at lc k u e f = rw e f
+
+pub unit-last : (lc : ℕ) → 4 ≤ lc → lc < 8 → (lc ≡ 4 → ⊥) → (lc ≡ 5 → ⊥) → (lc ≡ 6 → ⊥) → _≡_ {A = ℕ} 8 (unitOf lc)
+unit-last lc l h a b c = let e : lc ≡ 7 = omega arith in rw e
+
+-- how far LC 5 steps back, and the others
+pub back-five : (lc : ℕ) → lc ≡ 5 → _≡_ {A = ℕ} 4 (stepBack lc)
+unfolding stepBack
+back-five lc e = rw e
+
+pub back-other : (lc : ℕ) → (lc ≡ 5 → ⊥) → _≡_ {A = ℕ} 0 (stepBack lc)
+unfolding stepBack
+back-other lc e = rw (ne-eqb lc 5 e)
 
 -- a whole header moves the cursor on, by its four bytes at least and not past the end
 got-same : (m : ℕ) (y : Cursor) (n : ℕ) (d : Cursor) → number.Got m y ≡ number.Got n d → y ≡ d
@@ -92,13 +106,13 @@ module _ (s : List ℕ) (set : Settings) where
       then-moved a (length-moves v d n y (a .inside) f)
 
   pub turn-moves : (wanted : ℕ) (c z : Cursor) → turnAt s set wanted c ≡ On z → Moved s c 4 z
-  unfolding turnAt judged
+  unfolding turnAt verdict
   turn-moves wanted c z e =
       let a = number-inv ranShort (On z) (λ x. done-on (Short x) z) (readNumber s set c 4) _ e in
       let b = number-inv ranShort (On z) (λ x. done-on (Short x) z) (lengthOf s set (a .0) (a .1)) _ (a .3) in
       then-moved (whole-moves c (a .0) (a .1) (b .0) (b .1) (a .2) (b .2))
       (past-moves s set (b .1) (b .0) z
-      (not-done (eqb (idOf (a .0)) wanted) (Found (b .0) (steppedBack (lcOf (a .0)) (b .1))) (pastValue s set (b .1) (b .0)) z (b .3)))
+      (not-done (eqb (idOf (a .0)) wanted) (Found (b .0) (valueFrom (lcOf (a .0)) (b .1))) (pastValue s set (b .1) (b .0)) z (b .3)))
 
 -- what a header comes to
 module _ (s : List ℕ) (set : Settings) (wanted : ℕ) (c : Cursor) (r : Number) (is : ReadIs s set c 4 r) where
@@ -112,31 +126,27 @@ module _ (s : List ℕ) (set : Settings) (wanted : ℕ) (c : Cursor) (r : Number
     turn-no-nextint x e = rw (sym (is .is) ∙ first, sym then ∙ e)
 
     module _ (n : ℕ) (y : Cursor) (told : q ≡ number.Got n y) where
-      -- LC 5 can step back
-      pub turn-room : 4 ≤ y .pos
-      turn-room = let a = whole-moves s set c v d n y (sym (is .is) ∙ first) (sym then ∙ told) in omega (arith, a .on)
+      -- a step back has its bytes
+      pub turn-room : (b : ℕ) → b ≤ 4 → b ≤ y .pos
+      turn-room b h = let a = whole-moves s set c v d n y (sym (is .is) ∙ first) (sym then ∙ told) in omega (arith, a .on)
 
-      pub turn-found-back : (lc : ℕ) (z : Cursor) → v % 268435456 ≡ wanted → lc ≡ lcOf v → lc ≡ 5 → z ≡ cursorAt (y .pos - 4) (y .origin) → Done (Found n z) ≡ turnAt s set wanted c
-      unfolding turnAt afterNumber judged steppedBack
-      turn-found-back lc z e l f g = rw (sym (is .is) ∙ first, sym then ∙ told, eq-eqb _ _ e, sym l ∙ f, g)
+      pub turn-found : (i lc b : ℕ) (z : Cursor) → i ≡ idOf v → i ≡ wanted → lc ≡ lcOf v → b ≡ stepBack lc → z ≡ cursorAt (y .pos - b) (y .origin) → Done (Found n z) ≡ turnAt s set wanted c
+      unfolding turnAt afterNumber verdict
+      turn-found i lc b z j e l f g = rw (sym (is .is) ∙ first, sym then ∙ told, eq-eqb _ _ (sym j ∙ e), ← l, ← f, g)
 
-      pub turn-found : (lc : ℕ) → v % 268435456 ≡ wanted → lc ≡ lcOf v → (lc ≡ 5 → ⊥) → Done (Found n y) ≡ turnAt s set wanted c
-      unfolding turnAt afterNumber judged steppedBack
-      turn-found lc e l f = rw (sym (is .is) ∙ first, sym then ∙ told, eq-eqb _ _ e, ← l, ne-eqb _ _ f)
-
-      pub turn-past : (t : Turn) → (v % 268435456 ≡ wanted → ⊥) → t ≡ pastValue s set y n → t ≡ turnAt s set wanted c
-      unfolding turnAt afterNumber judged
-      turn-past t e g = rw (sym (is .is) ∙ first, sym then ∙ told, ne-eqb _ _ e) g
+      pub turn-past : (i : ℕ) (t : Turn) → i ≡ idOf v → (i ≡ wanted → ⊥) → t ≡ pastValue s set y n → t ≡ turnAt s set wanted c
+      unfolding turnAt afterNumber verdict
+      turn-past i t j e g = rw (sym (is .is) ∙ first, sym then ∙ told, ne-eqb _ _ (λ f. e (j ∙ f))) g
 
 -- no header ends the search
 module _ (s : List ℕ) (set : Settings) (wanted : ℕ) where
   there : (c : Cursor) → turnAt s set wanted c ≡ Done PidNotFound → ⊥
-  unfolding turnAt judged
+  unfolding turnAt verdict
   there c e =
       let a = number-inv ranShort (Done PidNotFound) short-done (readNumber s set c 4) _ e in
       let b = number-inv ranShort (Done PidNotFound) short-done (lengthOf s set (a .0) (a .1)) _ (a .3) in
-      pick-never (eqb (idOf (a .0)) wanted) (Done (Found (b .0) (steppedBack (lcOf (a .0)) (b .1)))) (pastValue s set (b .1) (b .0)) (Done PidNotFound)
-      (found-done (b .0) (steppedBack (lcOf (a .0)) (b .1))) (past-there s set (b .1) (b .0)) (b .3)
+      pick-never (eqb (idOf (a .0)) wanted) (Done (Found (b .0) (valueFrom (lcOf (a .0)) (b .1)))) (pastValue s set (b .1) (b .0)) (Done PidNotFound)
+      (found-done (b .0) (valueFrom (lcOf (a .0)) (b .1))) (past-there s set (b .1) (b .0)) (b .3)
 
   pub xcdr2-never-missing : (c : Cursor) → seekToPid s set wanted c ≡ PidNotFound → ⊥
   unfolding seekToPid

@@ -2,5 +2,4 @@ pub mod Search
 pub mod Xcdr1
 pub mod Xcdr2
 pub mod Member
-pub mod Dheader
-pub mod Ahead
+pub mod Code

@@ -1,5 +1,5 @@
 -- The lookup of a member.
-use Prim.Native.Nat.{ℕ}
+use Prim.Native.Nat.{ℕ, _%_, _^_}
 use mathlib.Core.List.{List}
 use lib.Dec.{ltb}
 use Rattle.ground.specs.Choice.{pick}
@@ -22,12 +22,17 @@ locatedV1 (seek.Found n c) back = pick (ltb 0 n) (Found n (cursorAt (c .pos) (c 
 locatedV1 seek.PidNotFound back = Absent back
 locatedV1 (seek.Short x) back = Absent back
 
--- "a match of any length reads the value. .. The position comes back." No XCDR2 search is PidNotFound (proofs/Xcdr2Turns.antt,
+-- "a match of any length reads the value. .. The position comes back." "A failed lookup stores nothing". No XCDR2 search is PidNotFound (proofs/Xcdr2Turns.antt,
 -- `xcdr2-never-missing`).
 unfoldable pub locatedV2 : Seek → Cursor → Located
 locatedV2 (seek.Found n c) back = Found n c back
 locatedV2 seek.PidNotFound back = Absent back
 locatedV2 (seek.Short x) back = Absent back
+
+-- the id that a version's headers are asked for. XCDR1: "The wanted id is cut to 16 bits."
+unfoldable pub askedFor : Version → ℕ → ℕ
+askedFor Xcdr1 id = id % 2 ^ 16
+askedFor Xcdr2 id = id
 
 -- the version's own search, from the place that comes back
 unfoldable pub lookedUp : List ℕ → Settings → Version → ℕ → Cursor → Located

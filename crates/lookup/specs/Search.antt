@@ -29,6 +29,6 @@ unfoldable pub headersIn : ℕ → (Cursor → Turn) → Cursor → Seek
 headersIn zero turn c = PidNotFound
 headersIn (suc n) turn c = onTurn (turn c) (λ d. headersIn n turn d)
 
--- Each header takes four bytes, so there are more turns than headers, and the count is never used up (proofs/Turns.antt, `enough`).
+-- Each header takes four bytes, so there are more turns than headers, and the count is never used up (proofs/Turns.antt, `never-missing`).
 abbrev pub seekBy : List ℕ → (Cursor → Turn) → Cursor → Seek
 seekBy s turn c = headersIn (suc (length s)) turn c

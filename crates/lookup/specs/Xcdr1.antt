@@ -17,11 +17,15 @@ use Rattle.lookup.specs.declared.search.Turn.the-variants.{Done}
 use Rattle.lookup.specs.declared.xcdr1.Header.{Header}
 use Rattle.lookup.specs.declared.xcdr1.Header.the-variants as header
 
+-- "id u16 (low 14 bits)"
+abbrev pub idOf : ℕ → ℕ
+idOf word = word % 2 ^ 14
+
 -- "Headers: id u16 (low 14 bits), length u16."
 unfoldable pub headerAt : List ℕ → Settings → Cursor → Header
 headerAt s set c =
-    afterNumber header.Short (readNumber s set c 2) (λ id d.
-    afterNumber header.Short (readNumber s set d 2) (λ n e. header.Got (id % 2 ^ 14) n e))
+    afterNumber header.Short (readNumber s set c 2) (λ word d.
+    afterNumber header.Short (readNumber s set d 2) (λ n e. header.Got (idOf word) n e))
 
 -- "0x3F02 with length 0 ends."
 abbrev pub isEnd : ℕ → ℕ → Bool
@@ -36,15 +40,15 @@ abbrev pub isMatch : ℕ → ℕ → Bool
 isMatch wanted id = eqb id (wanted % 2 ^ 16)
 
 -- what a header comes to: the end, a match, or another's
-unfoldable pub judged : List ℕ → Settings → ℕ → ℕ → ℕ → Cursor → Turn
-judged s set wanted id n c =
+unfoldable pub verdict : List ℕ → Settings → ℕ → ℕ → ℕ → Cursor → Turn
+verdict s set wanted id n c =
     pick (isEnd id n) (Done (ended wanted c))
     (pick (isMatch wanted id) (Done (Found n c)) (pastValue s set c n))
 
 -- one header, read and judged
 unfoldable pub onHeader : List ℕ → Settings → ℕ → Header → Turn
 onHeader s set wanted (header.Short x) = ranShort x
-onHeader s set wanted (header.Got id n c) = judged s set wanted id n c
+onHeader s set wanted (header.Got id n c) = verdict s set wanted id n c
 
 unfoldable pub turnAt : List ℕ → Settings → ℕ → Cursor → Turn
 turnAt s set wanted c = onHeader s set wanted (headerAt s set c)
@@ -54,12 +58,12 @@ unfoldable pub seekToPid : List ℕ → Settings → ℕ → Cursor → Seek
 seekToPid s set wanted c = seekBy s (turnAt s set wanted) c
 
 -- where a search for 0x3F02 stands; it is never PidNotFound (proofs/Xcdr1Turns.antt, `sentinel-never-missing`)
-unfoldable pub standing : Cursor → Seek → Place
-standing c (Found n d) = place.At d
-standing c (Short x) = place.Short x
-standing c PidNotFound = place.At c
+unfoldable pub sentinelPlace : Cursor → Seek → Place
+sentinelPlace c (Found n d) = place.At d
+sentinelPlace c (Short x) = place.Short x
+sentinelPlace c PidNotFound = place.At c
 
 -- "A Mutable structure then looks for 0x3F02 itself, with no align 4 first (each u16 aligns to 2); there a nonzero length also matches,
 -- and the position stays after that header."
 unfoldable pub seekToSentinel : List ℕ → Settings → Cursor → Place
-seekToSentinel s set c = standing c (seekToPid s set 0x3F02 c)
+seekToSentinel s set c = sentinelPlace c (seekToPid s set 0x3F02 c)

@@ -28,32 +28,36 @@ unfoldable pub nextintTimes : List ℕ → Settings → ℕ → Cursor → Numbe
 nextintTimes s set unit c = afterNumber number.Short (readNumber s set c 4) (λ n d. number.Got (n * unit) d)
 
 -- "lengths 1, 2, 4, 8, then NEXTINT times 1, 1, 4, 8"
-abbrev pub toldBy : ℕ → ℕ
-toldBy lc = getD (1 ∷ 2 ∷ 4 ∷ 8 ∷ []) lc 0
+abbrev pub fixedLength : ℕ → ℕ
+fixedLength lc = getD (1 ∷ 2 ∷ 4 ∷ 8 ∷ []) lc 0
 
-abbrev pub unitBy : ℕ → ℕ
-unitBy lc = getD (1 ∷ 1 ∷ 4 ∷ 8 ∷ []) (lc - 4) 0
+abbrev pub unitOf : ℕ → ℕ
+unitOf lc = getD (1 ∷ 1 ∷ 4 ∷ 8 ∷ []) (lc - 4) 0
 
 unfoldable pub lengthByLc : List ℕ → Settings → ℕ → Cursor → Number
-lengthByLc s set lc c = pick (ltb lc 4) (number.Got (toldBy lc) c) (nextintTimes s set (unitBy lc) c)
+lengthByLc s set lc c = pick (ltb lc 4) (number.Got (fixedLength lc) c) (nextintTimes s set (unitOf lc) c)
 
 unfoldable pub lengthOf : List ℕ → Settings → ℕ → Cursor → Number
 lengthOf s set emheader c = lengthByLc s set (lcOf emheader) c
 
 -- "LC 5 steps back 4 on a match."
-unfoldable pub steppedBack : ℕ → Cursor → Cursor
-steppedBack lc c = pick (eqb lc 5) (cursorAt (c .pos - 4) (c .origin)) c
+unfoldable pub stepBack : ℕ → ℕ
+stepBack lc = pick (eqb lc 5) 4 0
+
+-- where a value stands whose whole header ends at c
+abbrev pub valueFrom : ℕ → Cursor → Cursor
+valueFrom lc c = cursorAt (c .pos - stepBack lc) (c .origin)
 
 -- what a header comes to: a match "of any length", or another's
-unfoldable pub judged : List ℕ → Settings → ℕ → ℕ → ℕ → Cursor → Turn
-judged s set wanted emheader n c =
-    pick (eqb (idOf emheader) wanted) (Done (Found n (steppedBack (lcOf emheader) c))) (pastValue s set c n)
+unfoldable pub verdict : List ℕ → Settings → ℕ → ℕ → ℕ → Cursor → Turn
+verdict s set wanted emheader n c =
+    pick (eqb (idOf emheader) wanted) (Done (Found n (valueFrom (lcOf emheader) c))) (pastValue s set c n)
 
 -- "then u32 headers": the header, the NEXTINT that it may have, and what they come to
 unfoldable pub turnAt : List ℕ → Settings → ℕ → Cursor → Turn
 turnAt s set wanted c =
     afterNumber ranShort (readNumber s set c 4) (λ emheader d.
-    afterNumber ranShort (lengthOf s set emheader d) (λ n e. judged s set wanted emheader n e))
+    afterNumber ranShort (lengthOf s set emheader d) (λ n e. verdict s set wanted emheader n e))
 
 -- "The search does not stop at the structure's end."
 unfoldable pub seekToPid : List ℕ → Settings → ℕ → Cursor → Seek

@@ -4,9 +4,19 @@ ghost use mathlib.Core.Path.{_≡_};
 ghost use Prim.Native.Nat.{_≤_, _<_, _^_};
 ghost use lib.ListN.{length};
 ghost use Rattle.wire.specs.Place.{cursorAt};
-ghost use Rattle.lookup.specs.Ahead.{aheadOf, AheadIs, Sought, Led, hintFrom, ledOn, valueAt, HeadAt, HeadOrEnd, LongHead, PassedTo};
-ghost use Rattle.lookup.specs.Xcdr2.{idOf, toldBy, unitBy};
+ghost use Rattle.lookup.specs.Code.Ahead.{aheadOf, AheadIs, HeaderAhead, StartIs, TrueHint, hintAt, hintAfter, valueAt, HeadAt, HeadOrEnd, LongHead, PassedTo};
+ghost use Rattle.lookup.specs.Xcdr1.{seekToSentinel};
+ghost use Rattle.lookup.specs.Xcdr2.{idOf};
+use crate::xcdr1::PID_LIST_END;
+use crate::xcdr1::seek_to_sentinel;
+use crate::xcdr2::fixed_length;
+use crate::xcdr2::lc;
+use crate::xcdr2::step_back;
+use crate::xcdr2::unit;
 use wire::cursor::Cursor;
+use wire::cursor::Place;
+use wire::cursor::Shortage;
+use wire::number::from_bytes;
 use wire::settings::Settings;
 use wire::settings::Version;
 
@@ -18,25 +28,25 @@ pub struct Ahead {
     pub next: usize,
 }
 
-fn found(value: usize, length: u64, next: usize) -> Ahead
-    ensures { λ r. ⌜ r ≡ aheadOf value length next ⌝ }
+fn ahead_of(value: usize, size: u64, next: usize) -> Ahead
+    ensures { λ r. ⌜ r ≡ aheadOf value size next ⌝ }
 {
     Ahead {
         value,
-        length,
+        length: size,
         next,
     }
 }
 
 // The search is to say.
-pub fn none() -> Ahead
+pub fn no_header() -> Ahead
     ensures { λ r. ⌜ r ≡ aheadOf 0 0 0 ⌝ }
 {
-    found(0, 0, 0)
+    ahead_of(0, 0, 0)
 }
 
 // Where the next header stands: past a value, aligned to 4 from the origin; the data's end where that is past it.
-fn past(s: &[u8], at: usize, size: u64, origin: usize) -> usize
+fn next_header(s: &[u8], at: usize, size: u64, origin: usize) -> usize
     requires { ⌜ (origin ≤ at) × (at ≤ length (now s)) × (size ≤ 2 ^ 35) ⌝ }
     ensures { λ r. ⌜ PassedTo (now (s .entry)) (cursorAt at origin) size r ⌝ }
 {
@@ -49,53 +59,24 @@ fn past(s: &[u8], at: usize, size: u64, origin: usize) -> usize
     next
 }
 
-// The length that a length code below 4 tells.
-fn told(lc: u64) -> u64
-    requires { ⌜ lc < 4 ⌝ }
-    ensures { λ r. ⌜ (r ≡ toldBy lc) × (0 < r) × (r ≤ 8) ⌝ }
-{
-    match lc {
-        0 => 1,
-        1 => 2,
-        2 => 4,
-        _ => 8,
-    }
-}
-
-// The unit of the length that NEXTINT tells.
-fn unit(lc: u64) -> u64
-    requires { ⌜ (4 ≤ lc) × (lc < 8) ⌝ }
-    ensures { λ r. ⌜ (r ≡ unitBy lc) × (r ≤ 8) ⌝ }
-{
-    match lc {
-        4 => 1,
-        5 => 1,
-        6 => 4,
-        _ => 8,
-    }
-}
-
-// A header that has its length in NEXTINT. LC 5 gives NEXTINT back to the value. An empty value is left to the search.
-fn long(s: &[u8], set: Settings, emheader: u64, pos: usize, origin: usize) -> Ahead
+// A header that has its length in NEXTINT. An empty value is left to the search.
+fn with_nextint(s: &[u8], set: Settings, emheader: u64, pos: usize, origin: usize) -> Ahead
     requires { ⌜ LongHead (now s) set emheader pos origin ⌝ }
     ensures { λ r. ⌜ AheadIs (now (s .entry)) set (idOf emheader) (cursorAt pos origin) r ⌝ }
 {
     let order = set.order;
     let head = pos + 4;
     if s.len() - head < 4 {
-        return none();
+        return no_header();
     }
-    let lc = emheader / 0x1000_0000 % 8;
-    let length = wire::number::from_bytes(s, order, head, 4) * unit(lc);
+    let code = lc(emheader);
+    let length = from_bytes(s, order, head, 4) * unit(code);
     if length == 0 {
-        return none();
+        return no_header();
     }
     let body = head + 4;
-    let next = past(s, body, length, origin);
-    if lc == 5 {
-        return found(head, length, next);
-    }
-    found(body, length, next)
+    let next = next_header(s, body, length, origin);
+    ahead_of(body - step_back(code), length, next)
 }
 
 // A header of XCDR2.
@@ -104,18 +85,18 @@ fn xcdr2(s: &[u8], set: Settings, wanted: u64, pos: usize, origin: usize) -> Ahe
     ensures { λ r. ⌜ AheadIs (now (s .entry)) set wanted (cursorAt pos origin) r ⌝ }
 {
     let order = set.order;
-    let emheader = wire::number::from_bytes(s, order, pos, 4);
-    if emheader % 0x1000_0000 != wanted {
-        return none();
+    let emheader = from_bytes(s, order, pos, 4);
+    if crate::xcdr2::id(emheader) != wanted {
+        return no_header();
     }
-    let lc = emheader / 0x1000_0000 % 8;
-    if 4 <= lc {
-        return long(s, set, emheader, pos, origin);
+    let code = lc(emheader);
+    if 4 <= code {
+        return with_nextint(s, set, emheader, pos, origin);
     }
     let head = pos + 4;
-    let length = told(lc);
-    let next = past(s, head, length, origin);
-    found(head, length, next)
+    let length = fixed_length(code);
+    let next = next_header(s, head, length, origin);
+    ahead_of(head - step_back(code), length, next)
 }
 
 // A header of XCDR1. An empty one is left to the search, and so is the end marker.
@@ -124,17 +105,17 @@ fn xcdr1(s: &[u8], set: Settings, wanted: u64, pos: usize, origin: usize) -> Ahe
     ensures { λ r. ⌜ AheadIs (now (s .entry)) set wanted (cursorAt pos origin) r ⌝ }
 {
     let order = set.order;
-    let pid = wire::number::from_bytes(s, order, pos, 2) % 16384;
-    if pid != wanted {
-        return none();
+    let word = from_bytes(s, order, pos, 2);
+    if crate::xcdr1::id(word) != wanted {
+        return no_header();
     }
-    let length = wire::number::from_bytes(s, order, pos + 2, 2);
+    let length = from_bytes(s, order, pos + 2, 2);
     if length == 0 {
-        return none();
+        return no_header();
     }
     let value = pos + 4;
-    let next = past(s, value, length, origin);
-    found(value, length, next)
+    let next = next_header(s, value, length, origin);
+    ahead_of(value, length, next)
 }
 
 // Where a found value is read.
@@ -154,43 +135,73 @@ pub struct Hint {
     pub least: u32,
 }
 
-fn from(next: usize) -> Hint
-    ensures { λ r. ⌜ r ≡ hintFrom next ⌝ }
+fn hint_at(next: usize) -> Hint
+    ensures { λ r. ⌜ r ≡ hintAt next ⌝ }
 {
     Hint { next, least: 0 }
 }
 
 // The hint before any member was found: the start itself, if a header may stand there.
-pub fn first(s: &[u8], back: Cursor) -> Hint
-    ensures { λ r. ⌜ ((set : Settings) → Led (now (s .entry)) set back (back .origin) r) ⌝ }
+fn first_hint(s: &[u8], back: Cursor) -> Hint
+    ensures { λ r. ⌜ ((set : Settings) → TrueHint (now (s .entry)) set back (back .origin) r) ⌝ }
 {
     let pos = back.pos;
     let origin = back.origin;
     let end = s.len();
     if pos < origin {
-        return from(end);
+        return hint_at(end);
     }
     if end < pos {
-        return from(end);
+        return hint_at(end);
     }
     if (pos - origin) % 4 != 0 {
-        return from(end);
+        return hint_at(end);
     }
-    from(pos)
+    hint_at(pos)
+}
+
+pub enum Start {
+    // The place that every lookup comes back to, and the hint before any member was found.
+    From(Cursor, Hint),
+    Short(Shortage),
+}
+
+// Where the lookups of a structure begin: the first one's alignment, if there is one. What follows a DHEADER or a header is mostly aligned
+// already, and then one test settles both.
+pub fn start_at(s: &[u8], set: Settings, some: bool, at: Cursor) -> Start
+    ensures { λ r. ⌜ StartIs (now (s .entry)) set some at r ⌝ }
+{
+    let version = set.version;
+    let pos = at.pos;
+    let origin = at.origin;
+    if origin <= pos {
+        if pos <= s.len() {
+            if (pos - origin) % 4 == 0 {
+                return Start::From(at, hint_at(pos));
+            }
+        }
+    }
+    if !some {
+        return Start::From(at, first_hint(s, at));
+    }
+    match at.align(s, version, 4) {
+        Place::Short(x) => Start::Short(x),
+        Place::At(back) => Start::From(back, first_hint(s, back)),
+    }
 }
 
 // The wanted member, if its header is where the hint says.
-pub fn sought(s: &[u8], set: Settings, wanted: u32, h: Hint, origin: usize) -> Ahead
+pub fn header_ahead(s: &[u8], set: Settings, wanted: u32, h: Hint, origin: usize) -> Ahead
     requires { ⌜ HeadOrEnd (now s) (h .next) origin ⌝ }
-    ensures { λ r. ⌜ Sought (now (s .entry)) set wanted h origin r ⌝ }
+    ensures { λ r. ⌜ HeaderAhead (now (s .entry)) set wanted h origin r ⌝ }
 {
     let version = set.version;
     let pos = h.next;
     if wanted < h.least {
-        return none();
+        return no_header();
     }
     if s.len() - pos < 4 {
-        return none();
+        return no_header();
     }
     match version {
         Version::Xcdr1 => xcdr1(s, set, wanted as u64, pos, origin),
@@ -199,12 +210,27 @@ pub fn sought(s: &[u8], set: Settings, wanted: u32, h: Hint, origin: usize) -> A
 }
 
 // The hint after a member that was found.
-pub fn onward(found: Ahead, wanted: u32) -> Hint
+pub fn hint_after(found: Ahead, wanted: u32) -> Hint
     requires { ⌜ wanted < 2 ^ 28 ⌝ }
-    ensures { λ r. ⌜ r ≡ ledOn found wanted ⌝ }
+    ensures { λ r. ⌜ r ≡ hintAfter found wanted ⌝ }
 {
     Hint {
         next: found.next,
         least: wanted + 1,
     }
+}
+
+// A Mutable structure's own search for the end marker, from where the hint says, which is nearer than its start.
+pub fn sentinel_from(s: &[u8], set: Settings, at: Cursor, h: Hint) -> Place
+    requires { ⌜ TrueHint (now s) set at (at .origin) h × (set .version ≡ Version.Xcdr1) ⌝ }
+    ensures { λ r. ⌜ r ≡ seekToSentinel (now (s .entry)) set at ⌝ }
+{
+    let next = h.next;
+    if PID_LIST_END < h.least as u64 {
+        return seek_to_sentinel(s, set, at);
+    }
+    if s.len() - next < 4 {
+        return seek_to_sentinel(s, set, at);
+    }
+    seek_to_sentinel(s, set, Cursor::new(next, at.origin))
 }

@@ -1,7 +1,5 @@
-// The search for a member by its id, in both versions, and the DHEADER. The lookup parts of the Rust's EncodingVersion1 and
-// EncodingVersion2.
+// The search for a member by its id, in both versions. The lookup parts of the Rust's EncodingVersion1 and EncodingVersion2.
 pub mod ahead;
-pub mod dheader;
 pub mod member;
 pub mod search;
 pub mod xcdr1;

@@ -1,6 +1,6 @@
 // The search of XCDR1: headers of an id and a length, 16 bits each, up to an end marker.
 ghost use mathlib.Core.Path.{_≡_};
-ghost use Rattle.lookup.specs.Xcdr1.{headerAt, turnAt, seekToPid, seekToSentinel};
+ghost use Rattle.lookup.specs.Xcdr1.{idOf, headerAt, turnAt, seekToPid, seekToSentinel};
 use crate::search::Seek;
 use crate::search::Turn;
 use wire::cursor::Cursor;
@@ -17,18 +17,25 @@ enum Header {
     Short(Shortage),
 }
 
-// The id without its two flags, and the length.
+// The id without its two flags.
+pub fn id(word: u64) -> u64
+    ensures { λ r. ⌜ r ≡ idOf word ⌝ }
+{
+    word % 0x4000
+}
+
+// The id and the length.
 fn read_header(s: &[u8], set: Settings, at: Cursor) -> Header
     ensures { λ r. ⌜ r ≡ headerAt (now (s .entry)) set at ⌝ }
 {
     let first = wire::number::read_number(s, set, at, 2);
     match first {
         Number::Short(x) => Header::Short(x),
-        Number::Got(id, c) => {
+        Number::Got(word, c) => {
             let second = wire::number::read_number(s, set, c, 2);
             match second {
                 Number::Short(x) => Header::Short(x),
-                Number::Got(length, d) => Header::Got(id % 16384, length, d),
+                Number::Got(length, d) => Header::Got(id(word), length, d),
             }
         }
     }
@@ -42,14 +49,14 @@ fn turn(s: &[u8], set: Settings, pid: u32, at: Cursor) -> Turn
     let head = read_header(s, set, at);
     match head {
         Header::Short(x) => Turn::Done(Seek::Short(x)),
-        Header::Got(id, length, c) => {
-            if (id == PID_LIST_END) & (length == 0) {
+        Header::Got(pid_here, length, c) => {
+            if (pid_here == PID_LIST_END) & (length == 0) {
                 if wanted == PID_LIST_END {
                     return Turn::Done(Seek::Found(0, c));
                 }
                 return Turn::Done(Seek::PidNotFound);
             }
-            if id == wanted % 65536 {
+            if pid_here == wanted % 0x1_0000 {
                 return Turn::Done(Seek::Found(length, c));
             }
             crate::search::past_value(s, set, c, length)

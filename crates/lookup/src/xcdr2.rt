@@ -1,19 +1,58 @@
 // The search of XCDR2: EMHEADERs of 32 bits, an id below a length code, the longer lengths in a NEXTINT after it. It has no end marker
 // and does not know where its structure ends.
 ghost use mathlib.Core.Path.{_≡_};
-ghost use Prim.Native.Nat.{_≤_};
-ghost use Rattle.lookup.specs.Xcdr2.{lcOf, nextintTimes, lengthOf, turnAt, seekToPid};
+ghost use Prim.Native.Nat.{_<_, _≤_};
+ghost use Rattle.lookup.specs.Xcdr2.{idOf, lcOf, fixedLength, unitOf, stepBack, nextintTimes, lengthOf, turnAt, seekToPid};
 use crate::search::Seek;
 use crate::search::Turn;
 use wire::cursor::Cursor;
 use wire::number::Number;
 use wire::settings::Settings;
 
+pub fn id(emheader: u64) -> u64
+    ensures { λ r. ⌜ r ≡ idOf emheader ⌝ }
+{
+    emheader % 0x1000_0000
+}
+
 // The length code.
-fn lc(emheader: u64) -> u64
-    ensures { λ r. ⌜ r ≡ lcOf emheader ⌝ }
+pub fn lc(emheader: u64) -> u64
+    ensures { λ r. ⌜ (r ≡ lcOf emheader) × (r < 8) ⌝ }
 {
     emheader / 0x1000_0000 % 8
+}
+
+// The length that a length code below 4 tells.
+pub fn fixed_length(lc: u64) -> u64
+    requires { ⌜ lc < 4 ⌝ }
+    ensures { λ r. ⌜ (r ≡ fixedLength lc) × (0 < r) × (r ≤ 8) ⌝ }
+{
+    match lc {
+        0 => 1,
+        1 => 2,
+        2 => 4,
+        _ => 8,
+    }
+}
+
+// The unit of the length that NEXTINT tells.
+pub fn unit(lc: u64) -> u64
+    requires { ⌜ (4 ≤ lc) × (lc < 8) ⌝ }
+    ensures { λ r. ⌜ (r ≡ unitOf lc) × (r ≤ 8) ⌝ }
+{
+    match lc {
+        4 => 1,
+        5 => 1,
+        6 => 4,
+        _ => 8,
+    }
+}
+
+// How far a value that was found begins before the end of its header: LC 5 alone gives NEXTINT back to it.
+pub fn step_back(lc: u64) -> usize
+    ensures { λ r. ⌜ (r ≡ stepBack lc) × (r ≤ 4) ⌝ }
+{
+    if lc == 5 { 4 } else { 0 }
 }
 
 // A length in units of `unit` bytes, and the cursor after NEXTINT.
@@ -33,19 +72,13 @@ fn length(s: &[u8], set: Settings, emheader: u64, at: Cursor) -> Number
     ensures { λ r. ⌜ r ≡ lengthOf (now (s .entry)) set emheader at ⌝ }
 {
     let code = lc(emheader);
-    match code {
-        0 => Number::Got(1, at),
-        1 => Number::Got(2, at),
-        2 => Number::Got(4, at),
-        3 => Number::Got(8, at),
-        4 => nextint_times(s, set, 1, at),
-        5 => nextint_times(s, set, 1, at),
-        6 => nextint_times(s, set, 4, at),
-        _ => nextint_times(s, set, 8, at),
+    if code < 4 {
+        return Number::Got(fixed_length(code), at);
     }
+    nextint_times(s, set, unit(code), at)
 }
 
-// One header. LC 5 alone gives NEXTINT back to the value, and on a match alone.
+// One header. It steps back on a match alone.
 fn turn(s: &[u8], set: Settings, pid: u32, at: Cursor) -> Turn
     ensures { λ r. ⌜ r ≡ turnAt (now (s .entry)) set pid at ⌝ }
 {
@@ -54,17 +87,15 @@ fn turn(s: &[u8], set: Settings, pid: u32, at: Cursor) -> Turn
     match head {
         Number::Short(x) => Turn::Done(Seek::Short(x)),
         Number::Got(emheader, c) => {
-            let told = length(s, set, emheader, c);
-            match told {
+            let size = length(s, set, emheader, c);
+            match size {
                 Number::Short(x) => Turn::Done(Seek::Short(x)),
                 Number::Got(n, d) => {
-                    if emheader % 0x1000_0000 == wanted {
-                        if lc(emheader) == 5 {
-                            let pos = d.pos;
-                            let origin = d.origin;
-                            return Turn::Done(Seek::Found(n, Cursor::new(pos - 4, origin)));
-                        }
-                        return Turn::Done(Seek::Found(n, d));
+                    if id(emheader) == wanted {
+                        let pos = d.pos;
+                        let origin = d.origin;
+                        let back = step_back(lc(emheader));
+                        return Turn::Done(Seek::Found(n, Cursor::new(pos - back, origin)));
                     }
                     crate::search::past_value(s, set, d, n)
                 }

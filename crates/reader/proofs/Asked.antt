@@ -1,28 +1,21 @@
 -- Laws of what the cycle asks of a type or a member. Assumes nothing.
 use Prim.Native.Nat.{ℕ, _/_, _<_}
 use mathlib.Core.Path.{_≡_, sym, ap, _∙_}
-use mathlib.Core.Bool.{Bool, true, false, not, _||_, _&&_}
+use mathlib.Core.Bool.{Bool, false, _||_, _&&_}
 use mathlib.Core.List.{List}
 use lib.Dec.{eqb}
 use borrow.Author.Tests.{eq-eqb, ne-eqb}
 use Rattle.ground.proofs.Tests.{and-both}
-use Rattle.wire.specs.declared.cursor.Cursor.{Cursor}
-use Rattle.wire.specs.declared.cursor.Place.{Place}
-use Rattle.wire.specs.declared.cursor.Place.the-variants as place
-use Rattle.wire.specs.declared.settings.Settings.{Settings}
 use Rattle.wire.specs.declared.settings.Version.{Version}
 use Rattle.wire.specs.declared.settings.Version.the-variants.{Xcdr1, Xcdr2}
-use Rattle.kinds.specs.declared.Entry.{Entry}
-use Rattle.kinds.specs.Kinds.{elementSizeOf, entryOf, isPrimitive, bitmaskStored}
+use Rattle.kinds.specs.Kinds.{elementSizeOf, isPrimitive, bitmaskStored}
 use Rattle.kinds.proofs.Table.{element-some}
 use Rattle.book.specs.Types.{BookType, Member, byte, quad, typeOf, bounded, typeNo}
 use Rattle.book.specs.Places.{from, typeAt, typesBy, PlaceOf}
-use Rattle.values.specs.Header.{afterDheader}
 use Rattle.reader.specs.Value.{isSequence, primitiveElement, readAs}
 use Rattle.reader.specs.Member.{byLength, elementCount}
 use Rattle.reader.specs.Structure.{absorbs}
-use Rattle.reader.specs.Nested.{isMutable, contentsAt}
-use Rattle.reader.specs.Several.{isStructure}
+use Rattle.reader.specs.Nested.{isMutable}
 
 pub sequence-is : (t : BookType) (k : ℕ) → k ≡ t .kind → eqb k 25 ≡ isSequence t
 unfolding isSequence
@@ -53,10 +46,6 @@ module _ (b : List ℕ) (at n : ℕ) where
   unfolding typeOf
   kind-there e = e
 
-  pub extensibility-there : n ≡ byte (from b at) 3 → n ≡ typeAt b at .extensibility
-  unfolding typeOf
-  extensibility-there e = e
-
   pub bounded-there : n ≡ byte (from b at) 5 → eqb n 1 ≡ bounded (typeAt b at)
   unfolding typeOf bounded
   bounded-there e = rw e
@@ -74,11 +63,11 @@ module _ (b index : List ℕ) (t : BookType) (ty q k : ℕ) (element : ty ≡ t 
   unfolding primitiveElement
   primitive-is r e = e ∙ ap isPrimitive element-kind
 
-  pub count-is : (x : Entry) → x ≡ entryOf k → (length : ℕ) → length / x .element ≡ elementCount (typesBy b index) t length
+  pub count-is : (x : ℕ) → x ≡ elementSizeOf k → (length : ℕ) → length / x ≡ elementCount (typesBy b index) t length
   unfolding elementCount
   count-is x e length = rw e (ap (λ (n : ℕ). length / elementSizeOf n) element-kind)
 
-pub size-some : (k : ℕ) (x : Entry) → x ≡ entryOf k → 0 < x .element
+pub size-some : (k x : ℕ) → x ≡ elementSizeOf k → 0 < x
 size-some k x e = rw e (element-some k)
 
 module _ (v : Version) (types : List BookType) (t : BookType) where
@@ -89,27 +78,3 @@ module _ (v : Version) (types : List BookType) (t : BookType) where
   pub length-both : v ≡ Xcdr2 → (x y : Bool) → x ≡ isSequence t → y ≡ primitiveElement types t → (x && y) ≡ byLength v types t
   unfolding byLength
   length-both e x y f g = rw (e, ← f, ← g) (and-both x y)
-
-module _ (s : List ℕ) (set : Settings) (t : BookType) (c : Cursor) (k : ℕ) (is : k ≡ t .extensibility) where
-  pub contents-appended : k ≡ 1 → (r : Place) → r ≡ afterDheader s set c → r ≡ contentsAt s set t c
-  unfolding contentsAt
-  contents-appended e r f = rw (← is, eq-eqb k 1 e) f
-
-  pub contents-here : (k ≡ 1 → ⊥) → place.At c ≡ contentsAt s set t c
-  unfolding contentsAt
-  contents-here h = rw (← is, ne-eqb k 1 h)
-
--- a structure, Mutable or not
-pub structure-not : (z : Bool) (t : BookType) (k : ℕ) → k ≡ t .kind → (k ≡ 22 → ⊥) → false ≡ isStructure z t
-unfolding isStructure
-structure-not true t k e f = rw (ne-eqb (t .kind) 22 (λ g. f (e ∙ g)))
-structure-not false t k e f = rw (ne-eqb (t .kind) 22 (λ g. f (e ∙ g)))
-
-module _ (z : Bool) (t : BookType) (k x : ℕ) (e : k ≡ t .kind) (g : x ≡ t .extensibility) (f : k ≡ 22) where
-  pub structure-mutable : z ≡ true → eqb x 2 ≡ isStructure z t
-  unfolding isStructure isMutable
-  structure-mutable h = rw (h, eq-eqb (t .kind) 22 (sym e ∙ f), g)
-
-  pub structure-final : z ≡ false → not (eqb x 2) ≡ isStructure z t
-  unfolding isStructure isMutable
-  structure-final h = rw (h, eq-eqb (t .kind) 22 (sym e ∙ f), g)

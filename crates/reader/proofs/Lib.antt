@@ -1,12 +1,11 @@
 mod Asked
-mod BegunSteps
+mod BeginningSteps
+pub mod RunSteps
 pub mod ValueSteps
 pub mod MemberSteps
 pub mod PlainSteps
 pub mod StructureSteps
-pub mod SeveralSteps
 pub mod LookedSteps
 pub mod UnionSteps
 pub mod NestedSteps
 mod Rules
-pub mod Examples

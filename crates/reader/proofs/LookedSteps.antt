@@ -1,14 +1,14 @@
 -- Laws of the members of a Mutable structure: each by its lookup, and then the structure's end. Assumes nothing.
-use Prim.Native.Nat.{ℕ, _+_, _-_, _^_, _≤_, _<_}
+use Prim.Native.Nat.{ℕ, suc, _+_, _-_, _^_, _≤_, _<_}
 use mathlib.Core.Path.{_≡_, refl, sym, ap, _∙_}
 use mathlib.Core.Bool.{Bool, true, false}
 use mathlib.Core.List.{List, [], _∷_}
 use native.Mathlib.Omega.{arith}
-use native.Mathlib.Nat.{add-zero}
 use mir.Syntax.{w64}
 use mir.Val.{Fits}
 use lib.ListN.{length}
-use lib.Dec.{ltb}
+use lib.Dec.{ltb, lit<}
+use borrow.Author.Tests.{lt-ltb}
 use Rattle.ground.specs.Choice.{pick}
 use Rattle.wire.specs.declared.cursor.Cursor.{Cursor}
 use Rattle.wire.specs.declared.cursor.Shortage.{Shortage}
@@ -17,8 +17,8 @@ use Rattle.wire.specs.declared.cursor.Place.the-variants as place
 use Rattle.wire.specs.declared.settings.Settings.{Settings}
 use Rattle.wire.specs.declared.settings.Version.{Version}
 use Rattle.wire.specs.declared.settings.Version.the-variants.{Xcdr1, Xcdr2}
-use Rattle.wire.specs.Place.{cursorAt, broughtBack, alignTo}
-use Rattle.wire.proofs.Moves.{after-at, after-short}
+use Rattle.wire.specs.Place.{cursorAt, broughtBack, alignTo, afterMove}
+use Rattle.wire.proofs.Moves.{align-twice, after-at, after-short}
 use Rattle.book.specs.declared.member.Run.{Run}
 use Rattle.book.specs.Types.{BookType, Member}
 use Rattle.book.specs.Places.{memberAt, typeAt, listed, later, Started, After}
@@ -31,49 +31,25 @@ use Rattle.lookup.specs.Member.{locate, lookedUp, locatedV1, locatedV2}
 use Rattle.lookup.specs.declared.member.Located.{Located}
 use Rattle.lookup.specs.declared.member.Located.the-variants as located
 use Rattle.lookup.specs.declared.ahead.Hint.{Hint}
+use Rattle.lookup.specs.declared.ahead.Start.{Start}
+use Rattle.lookup.specs.declared.ahead.Start.the-variants as start
 use Rattle.lookup.specs.declared.ahead.Ahead.{Ahead}
-use Rattle.lookup.specs.Ahead.{Led, ledOn}
-use Rattle.lookup.proofs.Hints.{led-sentinel}
+use Rattle.lookup.specs.Code.Ahead.{TrueHint, hintAfter, firstLookup, StartIs}
 use Rattle.table.specs.declared.rows.Row.{Row}
 use Rattle.table.specs.declared.out.Refusal.{Refusal}
 use Rattle.table.specs.declared.out.Out.{Out}
 use Rattle.table.specs.declared.out.Out.the-variants.{Read, Short, Refused}
 use Rattle.table.specs.Rows.{room}
-use Rattle.table.specs.Outcome.{Outcome, read, short, refused, prepend, andThen, backTo, Done}
+use Rattle.table.specs.Outcome.{Outcome, read, short, refused, prepend, andThen, backTo}
+use Rattle.table.specs.Code.Outcome.{Done}
 use Rattle.table.proofs.Filling.{filled-none, room-used}
 use Rattle.table.proofs.Outcomes.{is-read, is-short, is-refused, is-same, is-after, was-read, was-short, was-refused, then-read, then-short, then-refused, prepend-nil, prepend-then, Sofar, sofar-start, sofar-more, sofar-short, sofar-refused}
-use Rattle.values.specs.Quick.{Quickly}
+use Rattle.values.specs.Code.Quick.{Quickly}
 use Rattle.values.proofs.Quickly.{quick-done, quick-none, quick-next}
 use Rattle.reader.specs.Value.{Nest}
 use Rattle.reader.specs.Member.{foundOf, onLocated, mmemberOf}
-use Rattle.reader.specs.Structure.{mmembersOf, atSentinel}
-use Rattle.reader.specs.Several.{endedBy}
-
--- what ends a structure
-module _ (s : List ℕ) (set : Settings) (end : ℕ) (c : Cursor) (n : ℕ) (t : List ℕ) where
-  pub ended-first : set .version ≡ Xcdr1 → (g : Place) → g ≡ xcdr1.seekToSentinel s set c → (d : Cursor) → g ≡ place.At d → Done (endedBy s set (set .version) end c) n t t (Read d n)
-  unfolding endedBy atSentinel
-  ended-first v g is d q = is-read {rs = []} (ap (λ (w : Version). endedBy s set w end c) v ∙ after-at _ _ (sym is ∙ q)) (sym (add-zero n)) (filled-none t n)
-
-  pub ended-lost : set .version ≡ Xcdr1 → (g : Place) → g ≡ xcdr1.seekToSentinel s set c → (x : Shortage) → g ≡ place.Short x → Done (endedBy s set (set .version) end c) n t t (Short x)
-  unfolding endedBy atSentinel
-  ended-lost v g is x q = is-short (ap (λ (w : Version). endedBy s set w end c) v ∙ after-short _ _ (sym is ∙ q)) (filled-none t n)
-
-  pub ended-second : set .version ≡ Xcdr2 → (d : Cursor) → d ≡ cursorAt end (c .origin) → Done (endedBy s set (set .version) end c) n t t (Read d n)
-  unfolding endedBy
-  ended-second v d e = is-read {rs = []} (ap (λ (w : Version). endedBy s set w end c) v ∙ ap (λ (y : Cursor). read y []) (sym e)) (sym (add-zero n)) (filled-none t n)
-
--- .. from where a hint says
-led-ended : (s : List ℕ) (set : Settings) (end : ℕ) (c : Cursor) (h : Hint) (v : Version) → set .version ≡ v → Led s set c (c .origin) h → h .next + 4 ≤ length s → h .least ≤ 0x3F02 → endedBy s set v end c ≡ endedBy s set v end (cursorAt (h .next) (c .origin))
-unfolding endedBy atSentinel
-led-ended s set end c h Xcdr1 v led there l = rw (led-sentinel s set c (c .origin) h v led there l)
-led-ended s set end c h Xcdr2 v led there l = refl
-
-pub ended-led : (s : List ℕ) (set : Settings) (end : ℕ) (c : Cursor) (h : Hint) (n : ℕ) (t : List ℕ) (r : Out) (d : Cursor) → d ≡ cursorAt (h .next) (c .origin) → Led s set c (c .origin) h → 4 ≤ length s - h .next → h .least ≤ 0x3F02
-    → Done (endedBy s set (set .version) end d) n t t r → Done (endedBy s set (set .version) end c) n t t r
-ended-led s set end c h n t r d e led left l k =
-    let i = led .place .inside in
-    is-same (led-ended s set end c h (set .version) refl led (omega arith) l ∙ ap (endedBy s set (set .version) end) (sym e)) k
+use Rattle.reader.specs.Structure.{mmembersOf}
+use Rattle.reader.specs.Nested.{endingBy}
 
 -- every lookup comes back to where the first alignment left it
 came-back : (f : Located) (back : Cursor) → Type 0
@@ -121,109 +97,166 @@ module _ (types : List BookType) (s : List ℕ) (set : Settings) (nest : Nest) (
       go (located.Absent d) f z = let y : d ≡ e = cc in sym y ∙ f
       go (located.Short x) f z = absurd f
 
-  module _ (b : List ℕ) (at end : ℕ) where
-    abbrev then-end : Outcome → Outcome
-    then-end o = andThen o (λ e used. endedBy s set (set .version) end e)
+-- the members, and what ends the structure
+abbrev then-end : List ℕ → Settings → ℕ → Outcome → Outcome
+then-end s set end o = andThen o (λ e used. endingBy s set (set .version) end e)
 
-    end-prepend : (rs : List Row) (o : Outcome) → then-end (prepend rs o) ≡ prepend rs (then-end o)
-    unfolding andThen prepend
-    end-prepend rs (read c ss) = sym (prepend-then rs ss (endedBy s set (set .version) end c))
-    end-prepend rs (short x) = refl
-    end-prepend rs (refused k) = refl
+end-prepend : (s : List ℕ) (set : Settings) (end : ℕ) (rs : List Row) (o : Outcome) → then-end s set end (prepend rs o) ≡ prepend rs (then-end s set end o)
+unfolding andThen prepend
+end-prepend s set end rs (read c ss) = sym (prepend-then rs ss (endingBy s set (set .version) end c))
+end-prepend s set end rs (short x) = refl
+end-prepend s set end rs (refused k) = refl
 
-    -- the members so far, with those that are left, and a hint that is true
-    pub record LookedSofar (whole : Outcome) (n : ℕ) (t u : List ℕ) (ms : Run) (m : ℕ) (h : Hint) : Type 0 where
-      pub so : Sofar whole (then-end (mmembersOf types s set nest (listed b ms) back (room u m))) n t u m
-      pub led : Led s set back (back .origin) h
-      pub aligned : 0 < ms .left → alignTo s (set .version) back 4 ≡ place.At back
+-- where the lookups begin: the first one aligns to 4
+first-of : (s : List ℕ) (set : Settings) (c : Cursor) (m : Member) (ms : List Member) → alignTo s (set .version) c 4 ≡ firstLookup s set (ltb 0 (length (m ∷ ms))) c
+unfolding firstLookup
+first-of s set c m ms = rw (lt-ltb 0 (suc (length ms)) (omega arith))
 
-    some-members : (ms : Run) → Started b at ms → 0 < ms .left → typeAt b at .members ≡ [] → ⊥
-    some-members ms e l f = absurd (let z : _≡_ {A = List Member} [] (memberAt b (ms .at) ∷ later b ms) = sym f ∙ sym (e .is) ∙ run-more b ms l in let y = ap length z in omega arith)
+module _ (types : List BookType) (s : List ℕ) (set : Settings) (nest : Nest) (end : ℕ) (c : Cursor) (k : ℕ) where
+  abbrev whole-from : List Member → Cursor → Outcome
+  whole-from ms d = then-end s set end (mmembersOf types s set nest ms d k)
 
-    pub looked-start : (t : List ℕ) (n : ℕ) (ms : Run) (h : Hint) → Started b at ms → ((any : Settings) → Led s any back (back .origin) h) → ((typeAt b at .members ≡ [] → ⊥) → alignTo s (set .version) back 4 ≡ place.At back) → LookedSofar (then-end (mmembersOf types s set nest (typeAt b at .members) back (room t n))) n t t ms n h
-    looked-start t n ms h e f a = record { so = sofar-start (ap (λ (l : List Member). then-end (mmembersOf types s set nest l back (room t n))) (sym (e .is))); led = f set; aligned = λ l. a (some-members ms e l) }
+  first-short : (ms : List Member) (x : Shortage) → firstLookup s set (ltb 0 (length ms)) c ≡ place.Short x → whole-from ms c ≡ short x
+  unfolding firstLookup mmembersOf mmemberOf onLocated locate
+  first-short [] x e = absurd (let z : _≡_ {A = ℕ} 0 1 = cc in omega arith)
+  first-short (m ∷ ms) x e =
+      let q : mmemberOf types s set nest m c k ≡ short x = ap (onLocated types s set nest m k) (after-short _ _ (first-of s set c m ms ∙ e)) in
+      ap (then-end s set end) (then-short (λ e used. mmembersOf types s set nest ms e (k - used)) q) ∙ then-short _ refl
 
-    module _ (whole : Outcome) (n : ℕ) (t u : List ℕ) (ms : Run) (m : ℕ) (h : Hint) (inv : LookedSofar whole n t u ms m h) where
-      abbrev wanted : Member
-      wanted = memberAt b (ms .at)
+  first-at : (ms : List Member) (back : Cursor) → firstLookup s set (ltb 0 (length ms)) c ≡ place.At back → whole-from ms c ≡ whole-from ms back
+  unfolding firstLookup mmembersOf mmemberOf locate
+  first-at [] back e = let z : c ≡ back = cc in rw z
+  first-at (m ∷ ms) back e =
+      let f : alignTo s (set .version) c 4 ≡ place.At back = first-of s set c m ms ∙ e in
+      let g : alignTo s (set .version) back 4 ≡ place.At back = align-twice s (set .version) c 4 back (lit< tt) f in
+      let q : mmemberOf types s set nest m c k ≡ mmemberOf types s set nest m back k =
+      ap (λ (y : Place). onLocated types s set nest m k (afterMove located.Short y (λ b. lookedUp s set (set .version) (m .id) b))) (f ∙ sym g) in
+      ap (λ (o : Outcome). then-end s set end (andThen o (λ x used. mmembersOf types s set nest ms x (k - used)))) q
 
-      module _ (l : 0 < ms .left) (v : List ℕ) (r : Out) (d : Done (mmemberOf types s set nest (memberAt b (ms .at)) back (room u m)) m u v r) where
-        next : mmembersOf types s set nest (listed b ms) back (room u m) ≡ andThen (mmemberOf types s set nest wanted back (room u m)) (λ e used. mmembersOf types s set nest (later b ms) e (room u m - used))
-        unfolding mmembersOf
-        next = rw (run-more b ms l)
+first-aligned : (s : List ℕ) (set : Settings) (c : Cursor) (ms : List Member) (back : Cursor) → firstLookup s set (ltb 0 (length ms)) c ≡ place.At back → (ms ≡ [] → ⊥) → alignTo s (set .version) back 4 ≡ place.At back
+unfolding firstLookup
+first-aligned s set c [] back e some = absurd (some refl)
+first-aligned s set c (m ∷ ms) back e some = align-twice s (set .version) c 4 back (lit< tt) (first-of s set c m ms ∙ e)
 
-        member-turn : (e : Cursor) (k : ℕ) (ns : Run) (g : Hint) → r ≡ Read e k → After b ms ns → Led s set back (back .origin) g → LookedSofar whole n t v ns k g
-        member-turn e k ns g q a y =
-            let w = was-read d q in
-            let f : e ≡ back = member-back (inv .aligned l) wanted (room u m) e (w .new) (w .is) in
-            let z : room u m - length (w .new) ≡ room v k = room-used u v m (length (w .new)) (w .filled .long) ∙ ap (room v) (sym (w .count)) in
-            let o : mmembersOf types s set nest (listed b ms) back (room u m) ≡ prepend (w .new) (mmembersOf types s set nest (listed b ns) back (room v k)) =
-            next ∙ then-read _ (w .is) ∙ ap (λ (x : Cursor). prepend (w .new) (mmembersOf types s set nest (later b ms) x (room u m - length (w .new)))) f
-            ∙ ap (λ (x : ℕ). prepend (w .new) (mmembersOf types s set nest (later b ms) back x)) z
-            ∙ ap (λ (x : List Member). prepend (w .new) (mmembersOf types s set nest x back (room v k))) (sym (a .is)) in
-            record { so = sofar-more (inv .so) (ap then-end o ∙ end-prepend (w .new) _) (w .count) (w .filled); led = y; aligned = λ k. inv .aligned l }
+module _ (s : List ℕ) (set : Settings) (b : List ℕ) (at : ℕ) (c : Cursor) (k : ℕ) (counted : k ≡ length (typeAt b at .members)) (g : Start) (is : StartIs s set (ltb 0 k) c g) where
+  module _ (back : Cursor) (h : Hint) (q : g ≡ start.From back h) where
+    stands : firstLookup s set (ltb 0 (length (typeAt b at .members))) c ≡ place.At back
+    unfolding StartIs
+    stands = rw (← counted) ((rw q at is) .0)
 
-        -- where no hint was of use, the old one is kept
-        pub looked-turn : (e : Cursor) (k : ℕ) (ns : Run) → r ≡ Read e k → After b ms ns → LookedSofar whole n t v ns k h
-        looked-turn e k ns q a = member-turn e k ns h q a (inv .led)
+    pub mstruct-hint : TrueHint s set back (back .origin) h × ((typeAt b at .members ≡ [] → ⊥) → alignTo s (set .version) back 4 ≡ place.At back)
+    unfolding StartIs
+    mstruct-hint = ((rw q at is) .1, first-aligned s set c (typeAt b at .members) back stands)
 
-        pub looked-short : (x : Shortage) → r ≡ Short x → Done whole n t v (Short x)
-        looked-short x q = let w = was-short d q in sofar-short (inv .so) (ap then-end (next ∙ then-short _ (w .is)) ∙ then-short _ refl) (w .filled)
+  module _ (types : List BookType) (nest : Nest) (end : ℕ) (t : List ℕ) (n : ℕ) where
+    abbrev mutable : Cursor → Outcome
+    mutable d = then-end s set end (mmembersOf types s set nest (typeAt b at .members) d (room t n))
 
-        pub looked-refused : (k : Refusal) → r ≡ Refused k → Done whole n t v (Refused k)
-        looked-refused k q = let w = was-refused d q in sofar-refused (inv .so) (ap then-end (next ∙ then-refused _ (w .is)) ∙ then-refused _ refl) (w .filled)
+    pub mstruct-short : (x : Shortage) → g ≡ start.Short x → Done (mutable c) n t t (Short x)
+    unfolding StartIs
+    mstruct-short x q = is-short (first-short types s set nest end c (room t n) (typeAt b at .members) x (rw (← counted) (rw q at is))) (filled-none t n)
 
-      pub looked-end : ms .left ≤ 0 → (r : Out) → ((t : List ℕ) → Done (endedBy s set (set .version) end back) m t t r) → Done whole n t u r
-      unfolding mmembersOf andThen prepend
-      looked-end l r d =
-          let o : then-end (mmembersOf types s set nest (listed b ms) back (room u m)) ≡ endedBy s set (set .version) end back = rw (run-none b ms l) (sym (prepend-nil (endedBy s set (set .version) end back))) in
-          is-same (inv .so .same ∙ ap (prepend (inv .so .new)) o) (is-after (inv .so .filled) (rw (inv .so .count) at (d u)))
+    pub mstruct-members : (back : Cursor) (h : Hint) → g ≡ start.From back h → (u : List ℕ) (r : Out) → Done (mutable back) n t u r → Done (mutable c) n t u r
+    mstruct-members back h q u r d = is-same (first-at types s set nest end c (room t n) (typeAt b at .members) back (stands back h q)) d
 
-      -- a member that was found where the hint says
-      module _ (size : ℕ) (c : Cursor) (there : locate s set (memberAt b (ms .at) .id) back ≡ located.Found size c back) where
-        came : mmemberOf types s set nest wanted back (room u m) ≡ backTo back (foundOf types s set nest wanted size c (room u m))
-        unfolding mmemberOf onLocated
-        came = ap (onLocated types s set nest wanted (room u m)) there
+-- the members so far, with those that are left, and a hint that is true
+pub record LookedSofar (types : List BookType) (s : List ℕ) (set : Settings) (nest : Nest) (back : Cursor) (b : List ℕ) (end : ℕ) (whole : Outcome) (n : ℕ) (t u : List ℕ) (ms : Run) (m : ℕ) (h : Hint) : Type 0 where
+  pub so : Sofar whole (then-end s set end (mmembersOf types s set nest (listed b ms) back (room u m))) n t u m
+  pub hint : TrueHint s set back (back .origin) h
+  pub aligned : 0 < ms .left → alignTo s (set .version) back 4 ≡ place.At back
 
-        module _ (l : 0 < ms .left) (v : List ℕ) (r : Out) (d : Done (foundOf types s set nest (memberAt b (ms .at)) size c (room u m)) m u v r) where
-          pub found-turn : (e : Cursor) (k : ℕ) (ns : Run) (g : Hint) → r ≡ Read e k → After b ms ns → Led s set back (back .origin) g → LookedSofar whole n t v ns k g
-          unfolding backTo
-          found-turn e k ns g q a y = let w = was-read d q in member-turn l v (Read back k) (is-read (came ∙ ap (backTo back) (w .is)) (w .count) (w .filled)) back k ns g refl a y
+some-members : (b : List ℕ) (at : ℕ) (ms : Run) → Started b at ms → 0 < ms .left → typeAt b at .members ≡ [] → ⊥
+some-members b at ms e l f = absurd (let z : _≡_ {A = List Member} [] (memberAt b (ms .at) ∷ later b ms) = sym f ∙ sym (e .is) ∙ run-more b ms l in let y = ap length z in omega arith)
 
-          pub found-short : (x y : Shortage) → r ≡ Short x → y ≡ broughtBack x back → Done whole n t v (Short y)
-          unfolding backTo
-          found-short x y q j = let w = was-short d q in looked-short l v (Short y) (is-short (came ∙ ap (backTo back) (w .is) ∙ ap short (sym j)) (w .filled)) y refl
+pub looked-start : (types : List BookType) (s : List ℕ) (set : Settings) (nest : Nest) (back : Cursor) (end : ℕ) (t : List ℕ) (n : ℕ) {b : List ℕ} {at : ℕ} {ms : Run} {h : Hint} → Started b at ms
+    → TrueHint s set back (back .origin) h × ((typeAt b at .members ≡ [] → ⊥) → alignTo s (set .version) back 4 ≡ place.At back)
+    → LookedSofar types s set nest back b end (then-end s set end (mmembersOf types s set nest (typeAt b at .members) back (room t n))) n t t ms n h
+looked-start types s set nest back end t n {b} {at} {ms} e f =
+    record { so = sofar-start (ap (λ (l : List Member). then-end s set end (mmembersOf types s set nest l back (room t n))) (sym (e .is))); hint = f .0; aligned = λ l. f .1 (some-members b at ms e l) }
 
-          pub found-refused : (k : Refusal) → r ≡ Refused k → Done whole n t v (Refused k)
-          unfolding backTo
-          found-refused k q = let w = was-refused d q in looked-refused l v (Refused k) (is-refused (came ∙ ap (backTo back) (w .is)) (w .filled)) k refl
+module _ {types : List BookType} {s : List ℕ} {set : Settings} {nest : Nest} {back : Cursor} {b : List ℕ} {end : ℕ} {whole : Outcome} {n : ℕ} {t u : List ℕ} {ms : Run} {m : ℕ} {h : Hint} (inv : LookedSofar types s set nest back b end whole n t u ms m h) where
+  abbrev wanted : Member
+  wanted = memberAt b (ms .at)
+
+  abbrev left-from : List Member → Cursor → ℕ → Outcome
+  left-from = mmembersOf types s set nest
+
+  module _ (l : 0 < ms .left) {v : List ℕ} {r : Out} (d : Done (mmemberOf types s set nest (memberAt b (ms .at)) back (room u m)) m u v r) where
+    next : left-from (listed b ms) back (room u m) ≡ andThen (mmemberOf types s set nest wanted back (room u m)) (λ e used. left-from (later b ms) e (room u m - used))
+    unfolding mmembersOf
+    next = rw (run-more b ms l)
+
+    member-turn : (e : Cursor) (k : ℕ) (ns : Run) (g : Hint) → r ≡ Read e k → After b ms ns → TrueHint s set back (back .origin) g → LookedSofar types s set nest back b end whole n t v ns k g
+    member-turn e k ns g q a y =
+        let w = was-read d q in
+        let f : e ≡ back = member-back types s set nest back (inv .aligned l) wanted (room u m) e (w .new) (w .is) in
+        let z : room u m - length (w .new) ≡ room v k = room-used u v m (length (w .new)) (w .filled .long) ∙ ap (room v) (sym (w .count)) in
+        let o : left-from (listed b ms) back (room u m) ≡ prepend (w .new) (left-from (listed b ns) back (room v k)) =
+        next ∙ then-read _ (w .is) ∙ ap (λ (x : Cursor). prepend (w .new) (left-from (later b ms) x (room u m - length (w .new)))) f
+        ∙ ap (λ (x : ℕ). prepend (w .new) (left-from (later b ms) back x)) z
+        ∙ ap (λ (x : List Member). prepend (w .new) (left-from x back (room v k))) (sym (a .is)) in
+        record { so = sofar-more (inv .so) (ap (then-end s set end) o ∙ end-prepend s set end (w .new) _) (w .count) (w .filled); hint = y; aligned = λ k. inv .aligned l }
+
+    -- where no hint was of use, the old one is kept
+    pub looked-turn : {e : Cursor} {k : ℕ} {ns : Run} → r ≡ Read e k → After b ms ns → LookedSofar types s set nest back b end whole n t v ns k h
+    looked-turn {e} {k} {ns} q a = member-turn e k ns h q a (inv .hint)
+
+    pub looked-short : {x : Shortage} → r ≡ Short x → Done whole n t v (Short x)
+    looked-short q = let w = was-short d q in sofar-short (inv .so) (ap (then-end s set end) (next ∙ then-short _ (w .is)) ∙ then-short _ refl) (w .filled)
+
+    pub looked-refused : {k : Refusal} → r ≡ Refused k → Done whole n t v (Refused k)
+    looked-refused q = let w = was-refused d q in sofar-refused (inv .so) (ap (then-end s set end) (next ∙ then-refused _ (w .is)) ∙ then-refused _ refl) (w .filled)
+
+  pub looked-end : ms .left ≤ 0 → {r : Out} → ((t : List ℕ) → Done (endingBy s set (set .version) end back) m t t r) → Done whole n t u r
+  unfolding mmembersOf andThen prepend
+  looked-end l d =
+      let o : then-end s set end (left-from (listed b ms) back (room u m)) ≡ endingBy s set (set .version) end back = rw (run-none b ms l) (sym (prepend-nil (endingBy s set (set .version) end back))) in
+      is-same (inv .so .same ∙ ap (prepend (inv .so .new)) o) (is-after (inv .so .filled) (rw (inv .so .count) at (d u)))
+
+  -- a member that was found where the hint says
+  module _ {size : ℕ} {c : Cursor} (there : locate s set (memberAt b (ms .at) .id) back ≡ located.Found size c back) where
+    came : mmemberOf types s set nest wanted back (room u m) ≡ backTo back (foundOf types s set nest wanted size c (room u m))
+    unfolding mmemberOf onLocated
+    came = ap (onLocated types s set nest wanted (room u m)) there
+
+    module _ (l : 0 < ms .left) {v : List ℕ} {r : Out} (d : Done (foundOf types s set nest (memberAt b (ms .at)) size c (room u m)) m u v r) where
+      pub found-turn : {e : Cursor} {k : ℕ} {ns : Run} {g : Hint} → r ≡ Read e k → After b ms ns → TrueHint s set back (back .origin) g → LookedSofar types s set nest back b end whole n t v ns k g
+      unfolding backTo
+      found-turn {k = k} {ns} {g} q a y = let w = was-read d q in member-turn l {r = Read back k} (is-read (came ∙ ap (backTo back) (w .is)) (w .count) (w .filled)) back k ns g refl a y
+
+      pub found-short : {x y : Shortage} → r ≡ Short x → y ≡ broughtBack x back → Done whole n t v (Short y)
+      unfolding backTo
+      found-short {y = y} q j = let w = was-short d q in looked-short l {r = Short y} (is-short (came ∙ ap (backTo back) (w .is) ∙ ap short (sym j)) (w .filled)) refl
+
+      pub found-refused : {k : Refusal} → r ≡ Refused k → Done whole n t v (Refused k)
+      unfolding backTo
+      found-refused {k} q = let w = was-refused d q in looked-refused l {r = Refused k} (is-refused (came ∙ ap (backTo back) (w .is)) (w .filled)) refl
+
+    -- .. and was taken where it stands, or left alone
+    module _ (v : List ℕ) (x : ℕ) (q : (f : Nest) (j : ℕ) → Quickly (foundOf types s set f (memberAt b (ms .at)) j c (room u m)) 1 m (c .origin) u v x) where
+      pub found-quick : 0 < ms .left → 0 < x → {ns : Run} {g : Hint} → After b ms ns → TrueHint s set back (back .origin) g → LookedSofar types s set nest back b end whole n t v ns (m + 1) g
+      found-quick l y a z = found-turn l {r = Read (cursorAt x (c .origin)) (m + 1)} (quick-done 1 x y (q nest size)) refl a z
+
+  pub found-next : (c : Cursor) (v : List ℕ) (x : ℕ) → ((f : Nest) (j : ℕ) → Quickly (foundOf types s set f (memberAt b (ms .at)) j c (room u m)) 1 m (c .origin) u v x) → 0 < x → length t < 2 ^ 64 → Fits w64 (m + 1)
+  found-next c v x q y k = quick-next _ _ _ _ _ x y (q (λ ty id d r. read d []) 0) (rw (← (inv .so .filled .long)) at k)
+
+  pub found-still : (c : Cursor) (v : List ℕ) (x : ℕ) → ((f : Nest) (j : ℕ) → Quickly (foundOf types s set f (memberAt b (ms .at)) j c (room u m)) 1 m (c .origin) u v x) → x ≤ 0 → LookedSofar types s set nest back b end whole n t v ms m h
+  found-still c v x q none = rw (quick-none _ 1 m (c .origin) u v x none (q nest 0)) inv
 
 -- a table that is as long as it was
 pub same-long : {t u v : List ℕ} {whole rest o : Outcome} {n m : ℕ} {r : Out} → Sofar whole rest n t u m → Done o m u v r → length v ≡ length t
 same-long so d = d .table .long ∙ so .filled .long
 
--- the value of a member that was found: taken where it stands, or left alone
-module _ (types : List BookType) (s : List ℕ) (set : Settings) (nest : Nest) (m : Member) (size : ℕ) (c : Cursor) (n : ℕ) (t u : List ℕ) (x : ℕ) (q : (f : Nest) (j : ℕ) → Quickly (foundOf types s set f m j c (room t n)) 1 n (c .origin) t u x) where
-  pub met-taken : 0 < x → (d : Cursor) → d ≡ cursorAt x (c .origin) → Done (foundOf types s set nest m size c (room t n)) n t u (Read d (n + 1))
-  met-taken y d e = rw e (quick-done 1 x y (q nest size))
-
-  pub met-left : x ≤ 0 → (v : List ℕ) (r : Out) → Done (foundOf types s set nest m size c (room u n)) n u v r → Done (foundOf types s set nest m size c (room t n)) n t v r
-  met-left none v r d = rw (quick-none _ 1 n (c .origin) t u x none (q nest size)) at d
-
--- a row that was written has its place
-pub met-next : (types : List BookType) (s : List ℕ) (set : Settings) (m : Member) (c : Cursor) (n : ℕ) (t u : List ℕ) (x : ℕ) → ((f : Nest) (j : ℕ) → Quickly (foundOf types s set f m j c (room t n)) 1 n (c .origin) t u x) → 0 < x → length t < 2 ^ 64 → Fits w64 (n + 1)
-met-next types s set m c n t u x q y k = quick-next _ _ _ _ _ x y (q (λ ty id d r. read d []) 0) k
-
 -- what is told of an id, of a cursor and of a hint that have names
-pub small-as : (i j k : ℕ) → i ≡ j → j < k → i < k
-small-as i j k e h = rw e h
+pub small-as : {i j k : ℕ} → i ≡ j → j < k → i < k
+small-as e h = rw e h
 
-pub found-at : (s : List ℕ) (set : Settings) (i size : ℕ) (c d back : Cursor) → c ≡ d → locate s set i back ≡ located.Found size d back → locate s set i back ≡ located.Found size c back
-found-at s set i size c d back e f = f ∙ ap (λ (x : Cursor). located.Found size x back) (sym e)
+pub found-at : (s : List ℕ) (set : Settings) (i : ℕ) {size : ℕ} {c d back : Cursor} → c ≡ d → locate s set i back ≡ located.Found size d back → locate s set i back ≡ located.Found size c back
+found-at s set i {size} {back = back} e f = f ∙ ap (λ (x : Cursor). located.Found size x back) (sym e)
 
-pub led-on : (s : List ℕ) (set : Settings) (back : Cursor) (o : ℕ) (a : Ahead) (i j : ℕ) (g : Hint) → g ≡ ledOn a i → i ≡ j → Led s set back o (ledOn a j) → Led s set back o g
-led-on s set back o a i j g e f l = rw (e, f) l
+pub hint-on : (s : List ℕ) (set : Settings) (back : Cursor) (o : ℕ) (a : Ahead) {i j : ℕ} {g : Hint} → g ≡ hintAfter a i → i ≡ j → TrueHint s set back o (hintAfter a j) → TrueHint s set back o g
+hint-on s set back o a e f l = rw (e, f) l
 
 -- each member leaves fewer
-pub fewer : (b : List ℕ) (ms ns : Run) → 0 < ms .left → After b ms ns → ns .left < ms .left
-fewer b ms ns l a = omega (arith, a .left)
+pub fewer : {b : List ℕ} {ms ns : Run} → 0 < ms .left → After b ms ns → ns .left < ms .left
+fewer l a = omega (arith, a .left)

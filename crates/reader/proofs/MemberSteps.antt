@@ -1,10 +1,11 @@
 -- Laws of members: what each return shows. Assumes nothing.
 use Prim.Native.Nat.{ℕ, _-_}
-use mathlib.Core.Path.{_≡_, sym, ap, _∙_}
+use mathlib.Core.Path.{_≡_, refl, sym, ap, _∙_}
 use mathlib.Core.Bool.{Bool, true, false}
 use mathlib.Core.List.{List, []}
 use native.Mathlib.Nat.{add-zero}
 use lib.ListN.{length}
+use lib.Dec.{eqb}
 use Rattle.wire.specs.declared.cursor.Cursor.{Cursor}
 use Rattle.wire.specs.declared.cursor.Shortage.{Shortage}
 use Rattle.wire.specs.declared.settings.Settings.{Settings}
@@ -12,7 +13,8 @@ use Rattle.table.specs.declared.out.Refusal.{Refusal}
 use Rattle.table.specs.declared.out.Out.{Out}
 use Rattle.table.specs.declared.out.Out.the-variants.{Read, Short, Refused}
 use Rattle.table.specs.Rows.{room}
-use Rattle.table.specs.Outcome.{Outcome, short, backTo, Done}
+use Rattle.table.specs.Outcome.{Outcome, short, backTo}
+use Rattle.table.specs.Code.Outcome.{Done}
 use Rattle.table.proofs.Filling.{filled-none}
 use Rattle.table.proofs.Outcomes.{is-read, is-short, is-refused, is-same, was-read, was-short, was-refused}
 use Rattle.wire.specs.declared.settings.Version.{Version}
@@ -27,38 +29,54 @@ use Rattle.lookup.specs.Member.{locate}
 use Rattle.lookup.specs.declared.member.Located.{Located}
 use Rattle.lookup.specs.declared.member.Located.the-variants as located
 use Rattle.table.specs.declared.out.Refusal.the-variants.{InvalidData}
-use Rattle.reader.specs.Value.{Nest, elementsOf, valueOf}
+use Rattle.kinds.specs.Kinds.{opens}
+use Rattle.reader.specs.Value.{Nest, isSequence, elementsOf, valueOf}
+use Rattle.reader.specs.Code.Run.{runOf}
+use Rattle.reader.proofs.ValueSteps.{opened-kind, value-opens}
 use Rattle.reader.specs.Member.{byLength, elementCount, foundBy, foundOf, onLocated, mmemberOf, onPresent, optionalBy, fmemberBy, fmemberOf}
+
+no-length : (types : List BookType) (v : Version) (t : BookType) → eqb (t .kind) 25 ≡ false → byLength v types t ≡ false
+unfolding byLength isSequence
+no-length types Xcdr1 t e = refl
+no-length types Xcdr2 t e = rw e
 
 module _ (b index s : List ℕ) (set : Settings) (nest : Nest) (p : ℕ) (c : Cursor) (t : List ℕ) (n : ℕ) where
   abbrev m : Member
   m = memberAt b p
 
   -- the value of a member that was found
-  module _ (length ty q : ℕ) (type : ty ≡ memberAt b p .type) (at : PlaceOf b index ty q) (y : Bool) (g : y ≡ byLength (set .version) (typesBy b index) (typeAt b q)) (i : ℕ) (named : i ≡ memberAt b p .id) where
+  module _ (length ty q : ℕ) (type : ty ≡ memberAt b p .type) (at : PlaceOf b index ty q) (i : ℕ) (named : i ≡ memberAt b p .id) where
     abbrev found : Outcome
     found = foundOf (typesBy b index) s set nest m length c (room t n)
 
     typed : typeAt b q ≡ typeNo (typesBy b index) (m .type)
     typed = at .is ∙ ap (typeNo (typesBy b index)) type
 
-    asked : byLength (set .version) (typesBy b index) (typeNo (typesBy b index) (m .type)) ≡ y
-    asked = ap (byLength (set .version) (typesBy b index)) (sym typed) ∙ sym g
+    asked : (y : Bool) → y ≡ byLength (set .version) (typesBy b index) (typeAt b q) → byLength (set .version) (typesBy b index) (typeNo (typesBy b index) (m .type)) ≡ y
+    asked y g = ap (byLength (set .version) (typesBy b index)) (sym typed) ∙ sym g
 
-    pub found-length : y ≡ true → (count e : ℕ) → count ≡ elementCount (typesBy b index) (typeAt b q) length → e ≡ typeAt b q .element → (u : List ℕ) (r : Out)
+    pub found-length : (y : Bool) → y ≡ byLength (set .version) (typesBy b index) (typeAt b q) → y ≡ true → (count e : ℕ) → count ≡ elementCount (typesBy b index) (typeAt b q) length → e ≡ typeAt b q .element → (u : List ℕ) (r : Out)
         → Done (elementsOf (typesBy b index) s set nest e i count c (room t n)) n t u r → Done found n t u r
     unfolding foundOf foundBy
-    found-length h count e j k u r d =
+    found-length y g h count e j k u r d =
         let e1 : typeNo (typesBy b index) (m .type) .element ≡ e = ap (λ (x : BookType). x .element) (sym typed) ∙ sym k in
         let e2 : elementCount (typesBy b index) (typeNo (typesBy b index) (m .type)) length ≡ count = ap (λ (x : BookType). elementCount (typesBy b index) x length) (sym typed) ∙ sym j in
-        is-same (ap (λ (z : Bool). foundBy (typesBy b index) s set nest z m length c (room t n)) (asked ∙ h)
+        is-same (ap (λ (z : Bool). foundBy (typesBy b index) s set nest z m length c (room t n)) (asked y g ∙ h)
         ∙ ap (λ (z : ℕ). elementsOf (typesBy b index) s set nest z (m .id) (elementCount (typesBy b index) (typeNo (typesBy b index) (m .type)) length) c (room t n)) e1
         ∙ ap (λ (z : ℕ). elementsOf (typesBy b index) s set nest e (m .id) z c (room t n)) e2
         ∙ ap (λ (z : ℕ). elementsOf (typesBy b index) s set nest e z count c (room t n)) (sym named)) d
 
-    pub found-value : y ≡ false → (u : List ℕ) (r : Out) → Done (valueOf (typesBy b index) s set nest ty i c (room t n)) n t u r → Done found n t u r
+    pub found-value : (y : Bool) → y ≡ byLength (set .version) (typesBy b index) (typeAt b q) → y ≡ false → (u : List ℕ) (r : Out) → Done (valueOf (typesBy b index) s set nest ty i c (room t n)) n t u r → Done found n t u r
     unfolding foundOf foundBy
-    found-value h u r d = is-same (ap (λ (z : Bool). foundBy (typesBy b index) s set nest z m length c (room t n)) (asked ∙ h) ∙ rw (← type, ← named)) d
+    found-value y g h u r d = is-same (ap (λ (z : Bool). foundBy (typesBy b index) s set nest z m length c (room t n)) (asked y g ∙ h) ∙ rw (← type, ← named)) d
+
+    -- what opens is taken by no length
+    pub found-opens : (k : ℕ) → k ≡ typeAt b q .kind → (o : Bool) → o ≡ opens k → o ≡ true → (u : List ℕ) (r : Out) → Done (runOf nest ty i 1 0 c (room t n)) n t u r → Done found n t u r
+    unfolding foundOf foundBy
+    found-opens k kind o g h u r d =
+        let z : eqb k 25 ≡ false = opened-kind k (sym g ∙ h) .2 in
+        let e : byLength (set .version) (typesBy b index) (typeNo (typesBy b index) (m .type)) ≡ false = ap (byLength (set .version) (typesBy b index)) (sym typed) ∙ no-length (typesBy b index) (set .version) (typeAt b q) (ap (λ (x : ℕ). eqb x 25) (sym kind) ∙ z) in
+        is-same (ap (λ (z : Bool). foundBy (typesBy b index) s set nest z m length c (room t n)) e ∙ rw (← type, ← named)) (value-opens b index s set nest ty i c t n q k at kind o g h u r d)
 
   -- a member by its lookup
   module _ (i : ℕ) (named : i ≡ memberAt b p .id) (g : Located) (is : g ≡ locate s set i c) where
@@ -136,6 +154,11 @@ module _ (b index s : List ℕ) (set : Settings) (nest : Nest) (p : ℕ) (c : Cu
     pub fmember-optional : o ≡ true → (u : List ℕ) (r : Out) → Done asked-for n t u r → Done final n t u r
     unfolding fmemberBy
     fmember-optional e u r d = is-same (by true e) d
+
+    pub fmember-opens : o ≡ false → (ty i q k : ℕ) → ty ≡ memberAt b p .type → i ≡ memberAt b p .id → PlaceOf b index ty q → k ≡ typeAt b q .kind → (y : Bool) → y ≡ opens k → y ≡ true
+        → (u : List ℕ) (r : Out) → Done (runOf nest ty i 1 0 c (room t n)) n t u r → Done final n t u r
+    unfolding fmemberBy
+    fmember-opens e ty i q k j l at kind y g h u r d = is-same (by false e ∙ rw (← j, ← l)) (value-opens b index s set nest ty i c t n q k at kind y g h u r d)
 
     pub fmember-value : o ≡ false → (ty i : ℕ) → ty ≡ memberAt b p .type → i ≡ memberAt b p .id → (u : List ℕ) (r : Out) → Done (valueOf (typesBy b index) s set nest ty i c (room t n)) n t u r → Done final n t u r
     unfolding fmemberBy

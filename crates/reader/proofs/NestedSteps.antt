@@ -13,70 +13,88 @@ use Rattle.wire.specs.declared.settings.Settings.{Settings}
 use Rattle.table.specs.declared.out.Refusal.{Refusal}
 use Rattle.table.specs.declared.out.Out.{Out}
 use Rattle.table.specs.declared.out.Out.the-variants.{Read, Short, Refused}
-use Rattle.table.specs.Rows.{row, width, room, noRoom, putRow}
-use Rattle.table.specs.Outcome.{Outcome, refused, roomFor, closed, Done}
+use Rattle.table.specs.Rows.{row, width, room, noRoom}
+use Rattle.table.specs.Code.Rows.{putRow}
+use Rattle.table.specs.Outcome.{Outcome, refused, roomFor, closed, andThen}
+use Rattle.table.specs.Code.Outcome.{Done}
 use Rattle.table.proofs.Filling.{filled-none, full-fits}
-use Rattle.table.proofs.Outcomes.{is-short, is-refused, is-same, row-full, row-read, row-short, row-refused}
-use Rattle.wire.specs.declared.cursor.Place.{Place}
-use Rattle.wire.specs.declared.cursor.Place.the-variants as place
-use Rattle.wire.proofs.Moves.{after-at, after-short}
-use Rattle.kinds.specs.Kinds.{opens}
+use Rattle.table.proofs.Outcomes.{is-short, is-refused, is-same, then-nil, row-full, row-read, row-short, row-refused}
+use Rattle.wire.specs.declared.dheader.Contents.{Contents}
+use Rattle.wire.specs.declared.dheader.Contents.the-variants as contents
+use Rattle.wire.proofs.Contents.{contents-short, contents-between}
+use Rattle.ground.specs.Choice.{both}
+use Rattle.kinds.proofs.Table.{opened-stored}
+use Rattle.kinds.specs.Kinds.{storedOf, opens}
 use Rattle.book.specs.Types.{BookType, typeNo}
 use Rattle.book.specs.Places.{typeAt, typesBy, PlaceOf}
 use Rattle.table.specs.declared.out.Refusal.the-variants.{InvalidType, TooDeep, NoRoom}
-use Rattle.values.specs.Header.{unheardDheader}
 use Rattle.values.specs.Scalar.{enumOf}
 use Rattle.reader.specs.Value.{Nest}
 use Rattle.reader.specs.Union.{membersBy}
-use Rattle.reader.specs.Nested.{isMutable, contentsAt, asFinal, asMutable, bodyBy, bodyOf, openedIf, tooDeepIf, nestedAt}
+use Rattle.reader.specs.Structure.{fmembersOf, mmembersOf}
+use Rattle.reader.specs.Nested.{isMutable, isStructure, beginningOf, endingBy, endingIf, endingOf, membersIf, membersOf, delimitedOf, bodyBy, bodyOf, openedIf, tooDeepIf, nestedAt}
 
--- what stands beneath the row of an enum or a union
+-- what stands beneath the row of a value
 module _ (types : List BookType) (s : List ℕ) (set : Settings) (nest : Nest) (b : List ℕ) (at : ℕ) (c : Cursor) (t : List ℕ) (n k : ℕ) (kind : k ≡ typeAt b at .kind) where
   abbrev body : Outcome
   body = bodyOf types s set nest (typeAt b at) c (room t n)
 
-  by : (x y : Bool) → eqb (typeAt b at .kind) 21 ≡ x → isMutable (typeAt b at) ≡ y → body ≡ bodyBy types s set nest x y (typeAt b at) c (room t n)
+  by : (x : Bool) → eqb (typeAt b at .kind) 21 ≡ x → body ≡ bodyBy types s set nest x (typeAt b at) c (room t n)
   unfolding bodyOf
-  by x y e f = ap (λ (z : Bool). bodyBy types s set nest z (isMutable (typeAt b at)) (typeAt b at) c (room t n)) e ∙ ap (λ (z : Bool). bodyBy types s set nest x z (typeAt b at) c (room t n)) f
+  by x e = ap (λ (z : Bool). bodyBy types s set nest z (typeAt b at) c (room t n)) e
 
   pub body-enum : k ≡ 21 → (e : ℕ) → e ≡ typeAt b at .base → (u : List ℕ) (r : Out) → Done (enumOf s set e c (room t n)) n t u r → Done body n t u r
   unfolding bodyBy
-  body-enum q e f u r h = is-same (by true (isMutable (typeAt b at)) (eq-eqb (typeAt b at .kind) 21 (sym kind ∙ q)) refl ∙ ap (λ (z : ℕ). enumOf s set z c (room t n)) (sym f)) h
+  body-enum q e f u r h = is-same (by true (eq-eqb (typeAt b at .kind) 21 (sym kind ∙ q)) ∙ ap (λ (z : ℕ). enumOf s set z c (room t n)) (sym f)) h
 
-  module _ (other : k ≡ 21 → ⊥) (y : Bool) (mutable : y ≡ isMutable (typeAt b at)) where
-    no-enum : eqb (typeAt b at .kind) 21 ≡ false
-    no-enum = ne-eqb (typeAt b at .kind) 21 (λ e. other (kind ∙ e))
-
-    no-structure : (k ≡ 22 → ⊥) → eqb (typeAt b at .kind) 22 ≡ false
-    no-structure h = ne-eqb (typeAt b at .kind) 22 (λ e. h (kind ∙ e))
-
-    is-mutable : y ≡ true → (z : Bool) → eqb (typeAt b at .kind) 22 ≡ z → body ≡ asMutable types s set nest z (typeAt b at) c (room t n)
+  module _ (other : k ≡ 21 → ⊥) (g : Contents) (is : g ≡ beginningOf s set (typeAt b at) c) where
+    no-enum : body ≡ delimitedOf types s set nest (typeAt b at) c (room t n)
     unfolding bodyBy
-    is-mutable h z e = by false true no-enum (sym mutable ∙ h) ∙ ap (λ (x : Bool). asMutable types s set nest x (typeAt b at) c (room t n)) e
+    no-enum = by false (ne-eqb (typeAt b at .kind) 21 (λ e. other (kind ∙ e)))
 
-    pub body-munion : y ≡ true → (k ≡ 22 → ⊥) → (u : List ℕ) (r : Out) → Done (membersBy types s set nest true (typeAt b at .members) (unheardDheader s set c) (room t n)) n t u r → Done body n t u r
-    unfolding asMutable
-    body-munion h e u r d = is-same (is-mutable h false (no-structure e)) d
+    pub body-short : (x : Shortage) → g ≡ contents.Short x → Done body n t t (Short x)
+    unfolding delimitedOf
+    body-short x q = is-short (no-enum ∙ contents-short _ _ (sym is ∙ q)) (filled-none t n)
 
-    module _ (h : y ≡ false) (g : Place) (is : g ≡ contentsAt s set (typeAt b at) c) where
-      is-final : (z : Bool) → eqb (typeAt b at .kind) 22 ≡ z → (d : Cursor) → g ≡ place.At d → body ≡ asFinal types s set nest z (typeAt b at) d (room t n)
-      unfolding bodyBy
-      is-final z e d q = by false false no-enum (sym mutable ∙ h) ∙ after-at _ _ (sym is ∙ q) ∙ ap (λ (x : Bool). asFinal types s set nest x (typeAt b at) d (room t n)) e
+    module _ (d : Cursor) (end : ℕ) (q : g ≡ contents.Between d end) (y : Bool) (mutable : y ≡ isMutable (typeAt b at)) where
+      between : body ≡ andThen (membersOf types s set nest (typeAt b at) d (room t n)) (λ e used. endingOf s set (typeAt b at) end e)
+      unfolding delimitedOf
+      between = no-enum ∙ contents-between _ _ (sym is ∙ q)
 
-      pub body-short : (x : Shortage) → g ≡ place.Short x → Done body n t t (Short x)
-      unfolding bodyBy
-      body-short x q = is-short (by false false no-enum (sym mutable ∙ h) ∙ after-short _ _ (sym is ∙ q)) (filled-none t n)
+      by-sort : (x z : Bool) → isStructure (typeAt b at) ≡ x → y ≡ z → body ≡ andThen (membersIf types s set nest x z (typeAt b at) d (room t n)) (λ e used. endingIf s set (both z x) end e)
+      unfolding membersOf endingOf
+      by-sort x z e f = between ∙ rw (e, sym mutable ∙ f)
 
-      pub body-funion : (d : Cursor) → g ≡ place.At d → (k ≡ 22 → ⊥) → (u : List ℕ) (r : Out) → Done (membersBy types s set nest false (typeAt b at .members) d (room t n)) n t u r → Done body n t u r
-      unfolding asFinal
-      body-funion d q e u r w = is-same (is-final false (no-structure e) d q) w
+      structure : k ≡ 22 → isStructure (typeAt b at) ≡ true
+      unfolding isStructure
+      structure e = eq-eqb (typeAt b at .kind) 22 (sym kind ∙ e)
+
+      union : (k ≡ 22 → ⊥) → isStructure (typeAt b at) ≡ false
+      unfolding isStructure
+      union e = ne-eqb (typeAt b at .kind) 22 (λ f. e (kind ∙ f))
+
+      pub body-mstruct : k ≡ 22 → y ≡ true → (u : List ℕ) (r : Out) → Done (andThen (mmembersOf types s set nest (typeAt b at .members) d (room t n)) (λ e used. endingBy s set (set .version) end e)) n t u r → Done body n t u r
+      unfolding membersIf endingIf
+      body-mstruct e f u r h = is-same (by-sort true true (structure e) f) h
+
+      pub body-fstruct : k ≡ 22 → y ≡ false → (u : List ℕ) (r : Out) → Done (fmembersOf types s set nest (typeAt b at) (typeAt b at .members) d (room t n)) n t u r → Done body n t u r
+      unfolding membersIf endingIf
+      body-fstruct e f u r h = is-same (by-sort true false (structure e) f ∙ then-nil _) h
+
+      pub body-union : (k ≡ 22 → ⊥) → (u : List ℕ) (r : Out) → Done (membersBy types s set nest y (typeAt b at .members) d (room t n)) n t u r → Done body n t u r
+      unfolding membersIf endingIf
+      body-union e u r h = is-same (by-sort false y (union e) refl ∙ stands y) h
+        where
+          stands : (z : Bool) → andThen (membersIf types s set nest false z (typeAt b at) d (room t n)) (λ e used. endingIf s set (both z false) end e) ≡ membersBy types s set nest z (typeAt b at .members) d (room t n)
+          stands true = then-nil _
+          stands false = then-nil _
 
 -- a row's place is in the table after the rows beneath it too
 pub place-kept : (t u : List ℕ) (n : ℕ) (o : Outcome) (r : Out) (f : Bool) → f ≡ noRoom t n → f ≡ false → Done o (n + 1) t u r → width * n + width ≤ length u
 place-kept t u n o r f full fits h = omega (arith, full-fits t n f full fits, h .table .long)
 
 -- opening: the kind, the depth, the room, then the body and the row
-module _ (b index s : List ℕ) (set : Settings) (ty id : ℕ) (c : Cursor) (t : List ℕ) (n p k : ℕ) (at : PlaceOf b index ty p) (kind : k ≡ typeAt b p .kind) (o : Bool) (is : o ≡ opens k) (D : ℕ) where
+module _ {b index : List ℕ} {ty p k : ℕ} {o : Bool} (at : PlaceOf b index ty p) (kind : k ≡ typeAt b p .kind) (is : o ≡ opens k) (s : List ℕ) (set : Settings) (id : ℕ) (c : Cursor) (t : List ℕ) (n D : ℕ) where
   abbrev types : List BookType
   types = typesBy b index
 
@@ -135,9 +153,14 @@ module _ (b index s : List ℕ) (set : Settings) (ty id : ℕ) (c : Cursor) (t :
       pub nested-full : f ≡ true → Done nested n t t (Refused NoRoom)
       nested-full = row-full k id ty beneath t n f full (is-opened deep)
 
-      module _ (fits : f ≡ false) (u : List ℕ) (r : Out) (h : Done (bodyOf types s set (nestedAt types s set (D - 1)) (typeAt b p) c (room t (n + 1))) (n + 1) t u r) where
-        pub nested-read : (e : Cursor) (m : ℕ) (v : List ℕ) → r ≡ Read e m → v ≡ putRow u n (row k id ty (m - n - 1)) → Done nested n t v (Read e m)
-        nested-read = row-read k id ty beneath t n f full (is-opened deep) fits u r h
+      module _ (fits : f ≡ false) {d : Cursor} (made : d ≡ c) {u : List ℕ} {r : Out} (given : Done (bodyOf types s set (nestedAt types s set (D - 1)) (typeAt b p) d (room t (n + 1))) (n + 1) t u r) where
+        h : Done (beneath (room t (n + 1))) (n + 1) t u r
+        h = rw made at given
+
+        pub nested-read : (e : Cursor) (m : ℕ) (v : List ℕ) → r ≡ Read e m → {x : ℕ} → x ≡ storedOf k → v ≡ putRow u n (row x id ty (m - n - 1)) → Done nested n t v (Read e m)
+        nested-read e m v q l p =
+            let z : v ≡ putRow u n (row k id ty (m - n - 1)) = p ∙ ap (λ (y : ℕ). putRow u n (row y id ty (m - n - 1))) (l ∙ opened-stored k (sym is ∙ opened)) in
+            row-read k id ty beneath t n f full (is-opened deep) fits u r h e m v q z
 
         pub nested-short : (x : Shortage) → r ≡ Short x → Done nested n t u (Short x)
         nested-short = row-short k id ty beneath t n f full (is-opened deep) fits u r h

@@ -21,11 +21,11 @@ use Rattle.book.specs.Types.{BookType, Member, optional, typeNo}
 use Rattle.book.specs.Places.{memberAt, typeAt, typesBy, PlaceOf}
 use Rattle.lookup.specs.declared.ahead.Ahead.{Ahead}
 use Rattle.lookup.specs.declared.ahead.Hint.{Hint}
-use Rattle.lookup.specs.Ahead.{Sought}
+use Rattle.lookup.specs.Code.Ahead.{HeaderAhead}
 use Rattle.table.specs.Rows.{room}
 use Rattle.table.specs.Outcome.{read}
 use Rattle.values.specs.Scalar.{scalarOf}
-use Rattle.values.specs.Quick.{isTaken, Quickly}
+use Rattle.values.specs.Code.Quick.{isTaken, Quickly}
 use Rattle.values.proofs.Quickly.{quick-not, quick-as, quick-next}
 use Rattle.reader.specs.Value.{Nest, isSequence, primitiveElement, readAs, valueOf}
 use Rattle.reader.specs.Member.{byLength, foundBy, foundOf, fmemberBy, fmemberOf}
@@ -140,5 +140,5 @@ pub plain-next : (types : List BookType) (s : List ℕ) (set : Settings) (m : Me
 plain-next types s set m c t n u r q h l = quick-next _ _ _ _ _ r h (q (λ ty id d k. read d [])) l
 
 -- the header where the hint says is asked for the member's own id
-pub sought-of : (b s : List ℕ) (set : Settings) (p : ℕ) (h : Hint) (origin : ℕ) (r : Ahead) (i : ℕ) → i ≡ memberAt b p .id → Sought s set i h origin r → Sought s set (memberAt b p .id) h origin r
-sought-of b s set p h origin r i e k = rw e at k
+pub ahead-of : (b s : List ℕ) (set : Settings) (p : ℕ) (h : Hint) (origin : ℕ) (r : Ahead) (i : ℕ) → i ≡ memberAt b p .id → HeaderAhead s set i h origin r → HeaderAhead s set (memberAt b p .id) h origin r
+ahead-of b s set p h origin r i e k = rw e at k

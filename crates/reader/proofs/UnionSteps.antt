@@ -11,8 +11,10 @@ use Rattle.wire.specs.declared.settings.Settings.{Settings}
 use Rattle.table.specs.declared.out.Refusal.{Refusal}
 use Rattle.table.specs.declared.out.Out.{Out}
 use Rattle.table.specs.declared.out.Out.the-variants.{Read, Short, Refused}
-use Rattle.table.specs.Rows.{room, Filled}
-use Rattle.table.specs.Outcome.{Outcome, read, short, refused, prepend, Done}
+use Rattle.table.specs.Rows.{room}
+use Rattle.table.specs.Code.Rows.{Filled}
+use Rattle.table.specs.Outcome.{Outcome, read, short, refused, prepend}
+use Rattle.table.specs.Code.Outcome.{Done}
 use Rattle.table.proofs.Filling.{filled-none, room-used}
 use Rattle.table.proofs.Outcomes.{is-short, is-refused, is-same, is-after, was-read, was-short, was-refused}
 use mathlib.Core.Option.{Option, none, some}
@@ -24,14 +26,14 @@ use Rattle.book.specs.Types.{BookType, Member}
 use Rattle.book.specs.Places.{memberAt, typeAt, later, Started}
 use Rattle.book.specs.Labels.{told}
 use Rattle.book.proofs.Places.{run-more, run-none}
-use Rattle.choice.specs.Discriminator.{discriminatorOf, discriminatorAt}
+use Rattle.choice.specs.Discriminator.{discriminatorOf}
+use Rattle.choice.specs.Code.Discriminator.{discriminatorAt}
 use Rattle.choice.specs.Select.{selectedOf}
 use Rattle.choice.specs.declared.discriminator.Discriminator.{Discriminator}
 use Rattle.choice.specs.declared.discriminator.Discriminator.the-variants.{Absent, Unfit, Value}
 use Rattle.choice.proofs.Discriminators.{at-of}
 use Rattle.table.specs.declared.rows.Row.{Row}
 use Rattle.table.specs.declared.out.Refusal.the-variants.{InvalidData, InvalidType, NoDiscriminator}
-use Rattle.values.specs.Header.{unheardDheader}
 use Rattle.reader.specs.Value.{Nest, valueOf}
 use Rattle.reader.specs.Member.{fmemberOf, mmemberOf}
 use Rattle.reader.specs.Union.{memberBy, discriminatorBy, onSelected, onDiscriminator, chosenOf, membersBy}
@@ -102,13 +104,13 @@ module _ (types : List BookType) (s : List ℕ) (set : Settings) (nest : Nest) (
         chosen : (o : Outcome) → discriminatorBy types s set nest mutable (memberAt b (ms .at)) c (room t n) ≡ o → union ≡ chosenOf types s set nest mutable (memberAt b (ms .at)) (typeAt b at .members) (room t n) o
         chosen o e = is-chosen ∙ ap (chosenOf types s set nest mutable (memberAt b (ms .at)) (typeAt b at .members) (room t n)) e
 
-        short-by : (x : Shortage) → r ≡ Short x → Done union n t u (Short x)
+        pub union-short : (x : Shortage) → r ≡ Short x → Done union n t u (Short x)
         unfolding chosenOf
-        short-by x q = let w = was-short h q in is-short (chosen (short x) (w .is)) (w .filled)
+        union-short x q = let w = was-short h q in is-short (chosen (short x) (w .is)) (w .filled)
 
-        refused-by : (k : Refusal) → r ≡ Refused k → Done union n t u (Refused k)
+        pub union-refused : (k : Refusal) → r ≡ Refused k → Done union n t u (Refused k)
         unfolding chosenOf
-        refused-by k q = let w = was-refused h q in is-refused (chosen (refused k) (w .is)) (w .filled)
+        union-refused k q = let w = was-refused h q in is-refused (chosen (refused k) (w .is)) (w .filled)
 
         -- over rows that are a variable
         then : (d : Cursor) (m : ℕ) (rs : List Row) → discriminatorBy types s set nest mutable (memberAt b (ms .at)) c (room t n) ≡ read d rs → m ≡ n + length rs → Filled t u n rs
@@ -123,40 +125,16 @@ module _ (types : List BookType) (s : List ℕ) (set : Settings) (nest : Nest) (
             ∙ ap (λ (x : Discriminator). prepend rs (onDiscriminator types s set nest mutable (memberAt b (ms .at)) (typeAt b at .members) d (room u m) x)) z)
             (is-after f (rw (sym k) g))
 
-        read-by : (d : Cursor) (m : ℕ) → r ≡ Read d m → (v : Discriminator) → v ≡ discriminatorAt u n m → (w : List ℕ) (y : Out)
+        pub union-read : (d : Cursor) (m : ℕ) → r ≡ Read d m → (v : Discriminator) → v ≡ discriminatorAt u n m → (w : List ℕ) (y : Out)
             → Done (onDiscriminator types s set nest mutable (memberAt b (ms .at)) (typeAt b at .members) d (room u m) v) m u w y → Done union n t w y
-        read-by d m q v i w y g = let x = was-read h q in then d m (x .new) (x .is) (x .count) (x .filled) v i w y g
+        union-read d m q v i w y g = let x = was-read h q in then d m (x .new) (x .is) (x .count) (x .filled) v i w y g
 
-  -- a Final or Appendable union's discriminator
-  module _ (ms : Run) (started : Started b at ms) (c : Cursor) (t : List ℕ) (n : ℕ) (some-left : ms .left ≡ 0 → ⊥) (ty i : ℕ) (type : ty ≡ memberAt b (ms .at) .type) (named : i ≡ memberAt b (ms .at) .id)
-      (u : List ℕ) (r : Out) (h : Done (valueOf types s set nest ty i c (room t n)) n t u r) where
-    plain : Done (discriminatorBy types s set nest false (memberAt b (ms .at)) c (room t n)) n t u r
+  -- the discriminator: looked up, or read as not optional
+  module _ (p : ℕ) (mutable : Bool) (c : Cursor) (t : List ℕ) (n : ℕ) (u : List ℕ) (r : Out) where
+    pub discriminator-looked : mutable ≡ true → Done (mmemberOf types s set nest (memberAt b p) c (room t n)) n t u r → Done (discriminatorBy types s set nest mutable (memberAt b p) c (room t n)) n t u r
     unfolding discriminatorBy
-    plain = is-same (ap (λ (x : ℕ). valueOf types s set nest x (memberAt b (ms .at) .id) c (room t n)) (sym type) ∙ ap (λ (x : ℕ). valueOf types s set nest ty x c (room t n)) (sym named)) h
+    discriminator-looked e h = rw e h
 
-    pub funion-short : (x : Shortage) → r ≡ Short x → Done (membersBy types s set nest false (typeAt b at .members) c (room t n)) n t u (Short x)
-    funion-short x q = short-by ms started false c t n some-left u r plain x q
-
-    pub funion-refused : (k : Refusal) → r ≡ Refused k → Done (membersBy types s set nest false (typeAt b at .members) c (room t n)) n t u (Refused k)
-    funion-refused k q = refused-by ms started false c t n some-left u r plain k q
-
-    pub funion-read : (d : Cursor) (m : ℕ) → r ≡ Read d m → (v : Discriminator) → v ≡ discriminatorAt u n m → (w : List ℕ) (y : Out)
-        → Done (onDiscriminator types s set nest false (memberAt b (ms .at)) (typeAt b at .members) d (room u m) v) m u w y → Done (membersBy types s set nest false (typeAt b at .members) c (room t n)) n t w y
-    funion-read d m q v i w y g = read-by ms started false c t n some-left u r plain d m q v i w y g
-
-  -- a Mutable union's discriminator
-  module _ (ms : Run) (started : Started b at ms) (c a : Cursor) (past : a ≡ unheardDheader s set c) (t : List ℕ) (n : ℕ) (some-left : ms .left ≡ 0 → ⊥) (u : List ℕ) (r : Out)
-      (h : Done (mmemberOf types s set nest (memberAt b (ms .at)) a (room t n)) n t u r) where
-    looked : Done (discriminatorBy types s set nest true (memberAt b (ms .at)) (unheardDheader s set c) (room t n)) n t u r
+    pub discriminator-plain : mutable ≡ false → (ty i : ℕ) → ty ≡ memberAt b p .type → i ≡ memberAt b p .id → Done (valueOf types s set nest ty i c (room t n)) n t u r → Done (discriminatorBy types s set nest mutable (memberAt b p) c (room t n)) n t u r
     unfolding discriminatorBy
-    looked = rw (← past) h
-
-    pub munion-short : (x : Shortage) → r ≡ Short x → Done (membersBy types s set nest true (typeAt b at .members) (unheardDheader s set c) (room t n)) n t u (Short x)
-    munion-short x q = short-by ms started true (unheardDheader s set c) t n some-left u r looked x q
-
-    pub munion-refused : (k : Refusal) → r ≡ Refused k → Done (membersBy types s set nest true (typeAt b at .members) (unheardDheader s set c) (room t n)) n t u (Refused k)
-    munion-refused k q = refused-by ms started true (unheardDheader s set c) t n some-left u r looked k q
-
-    pub munion-read : (d : Cursor) (m : ℕ) → r ≡ Read d m → (v : Discriminator) → v ≡ discriminatorAt u n m → (w : List ℕ) (y : Out)
-        → Done (onDiscriminator types s set nest true (memberAt b (ms .at)) (typeAt b at .members) d (room u m) v) m u w y → Done (membersBy types s set nest true (typeAt b at .members) (unheardDheader s set c) (room t n)) n t w y
-    munion-read d m q v i w y g = read-by ms started true (unheardDheader s set c) t n some-left u r looked d m q v i w y g
+    discriminator-plain e ty i type named h = rw (e, ← type, ← named) h

@@ -1,67 +1,54 @@
 -- Laws of a value and of lists of opened values: what each return and each turn shows. Assumes nothing.
-use Prim.Native.Nat.{ℕ, suc, _+_, _-_, _≤_, _<_}
-use mathlib.Core.Path.{_≡_, sym, ap, _∙_}
-use mathlib.Core.Bool.{Bool, true, false, _||_, or-false}
+use Prim.Native.Nat.{ℕ, _+_, _-_, _≤_}
+use mathlib.Core.Path.{_≡_, refl, sym, ap, _∙_}
+use mathlib.Core.Bool.{Bool, true, false, not, _||_, or-false}
 use mathlib.Core.List.{List, [], _∷_}
-use native.Mathlib.Nat.{sub-zero, add-zero}
+use native.Mathlib.Nat.{add-zero}
 use native.Mathlib.Omega.{arith}
-use lib.Dec.{eqb}
+use lib.Dec.{T, eqb, leb, leb→le}
 use borrow.Author.Tests.{ne-eqb}
-use Rattle.ground.specs.Choice.{among}
+use Rattle.ground.proofs.Tests.{both-left, both-right}
+use Rattle.ground.proofs.Between.{passes, between}
+use Rattle.ground.specs.Choice.{both, among}
 use Rattle.wire.specs.declared.cursor.Cursor.{Cursor}
 use Rattle.wire.specs.declared.cursor.Shortage.{Shortage}
 use Rattle.wire.specs.declared.settings.Settings.{Settings}
-use Rattle.table.specs.declared.out.Refusal.{Refusal}
 use Rattle.table.specs.declared.out.Out.{Out}
 use Rattle.table.specs.declared.out.Out.the-variants.{Read, Short, Refused}
-use Rattle.table.specs.Rows.{row, room, noRoom, putRow, Filled}
-use Rattle.table.specs.Outcome.{Outcome, read, roomFor, prepend, andThen, Done}
+use Rattle.table.specs.Rows.{row, room, noRoom}
+use Rattle.table.specs.Code.Rows.{putRow, Filled}
+use Rattle.table.specs.Outcome.{Outcome, roomFor, prepend}
+use Rattle.table.specs.Code.Outcome.{Done}
 use Rattle.table.proofs.Filling.{filled-none, filled-one, full-fits, room-used}
-use Rattle.table.proofs.Outcomes.{is-read, is-short, is-refused, is-same, is-after, no-room, some-room, Sofar, sofar-start, sofar-read, turn-read, turn-short, turn-refused}
+use Rattle.table.proofs.Outcomes.{is-read, is-short, is-refused, is-same, is-after, no-room, some-room}
 use Rattle.wire.specs.declared.number.Number.{Number}
 use Rattle.wire.specs.declared.number.Number.the-variants as number
 use Rattle.wire.proofs.Numbers.{after-got, after-none}
-use Rattle.kinds.specs.Kinds.{unsupportedMember, unsupportedElement, opens}
+use Rattle.kinds.proofs.Table.{opened-stored, sequence-stored}
+use Rattle.kinds.specs.Kinds.{storedOf, isPrimitive, unsupportedMember, unsupportedElement, opens}
 use Rattle.book.specs.Types.{BookType, typeNo}
 use Rattle.book.specs.Places.{typeAt, typesBy, PlaceOf}
 use Rattle.table.specs.declared.out.Refusal.the-variants.{Unsupported, NoRoom}
 use Rattle.values.specs.Scalar.{scalarOf}
-use Rattle.values.specs.List.{listOf, blockOf}
+use Rattle.values.specs.List.{primitivesOf, bitmasksOrTextsOf}
 use Rattle.values.specs.Header.{countFrom}
+use Rattle.reader.specs.Code.Run.{runOf}
+use Rattle.reader.proofs.RunSteps.{run-single, run-list}
 use Rattle.reader.specs.Value.{Nest, isSequence, primitiveElement, readAs, openedFrom, openedList, elementsOf, listValue, valueOf}
 
--- a run of opened elements
-module _ (types : List BookType) (s : List ℕ) (set : Settings) (nest : Nest) (ty count : ℕ) where
-  more : (i : ℕ) (c : Cursor) (k : ℕ) → i < count → openedFrom types s set nest ty (count - i) i c k ≡ andThen (nest ty i c k) (λ d used. openedFrom types s set nest ty (count - (i + 1)) (i + 1) d (k - used))
-  unfolding openedFrom
-  more i c k h = let e : count - i ≡ suc (count - (i + 1)) = omega arith in rw e
-
-  none : (i : ℕ) (c : Cursor) (k : ℕ) → count ≤ i → openedFrom types s set nest ty (count - i) i c k ≡ read c []
-  unfolding openedFrom
-  none i c k h = let e : count - i ≡ 0 = omega arith in rw e
-
-  abbrev pub OpenedSofar : Outcome → ℕ → List ℕ → List ℕ → ℕ → Cursor → ℕ → Type 0
-  OpenedSofar whole n t u i c m = Sofar whole (openedFrom types s set nest ty (count - i) i c (room u m)) n t u m
-
-  pub opened-start : (c : Cursor) (t : List ℕ) (n : ℕ) → OpenedSofar (openedFrom types s set nest ty count 0 c (room t n)) n t t 0 c n
-  opened-start c t n = sofar-start (rw sub-zero)
-
-  module _ (whole : Outcome) (n : ℕ) (t u : List ℕ) (i : ℕ) (c : Cursor) (m : ℕ) (inv : OpenedSofar whole n t u i c m) where
-    module _ (l : i < count) (v : List ℕ) (r : Out) (h : Done (nest ty i c (room u m)) m u v r) where
-      abbrev those-after : Cursor → ℕ → Outcome
-      those-after d k = openedFrom types s set nest ty (count - (i + 1)) (i + 1) d k
-
-      pub opened-turn : (d : Cursor) (k : ℕ) → r ≡ Read d k → OpenedSofar whole n t v (i + 1) d k
-      opened-turn = turn-read those-after inv (more i c (room u m) l) h
-
-      pub opened-short : (x : Shortage) → r ≡ Short x → Done whole n t v (Short x)
-      opened-short = turn-short those-after inv (more i c (room u m) l) h
-
-      pub opened-refused : (k : Refusal) → r ≡ Refused k → Done whole n t v (Refused k)
-      opened-refused = turn-refused those-after inv (more i c (room u m) l) h
-
-    pub opened-end : count ≤ i → Done whole n t u (Read c m)
-    opened-end h = sofar-read inv (none i c (room u m) h) (filled-none u m)
+-- the kinds that open: none of them is NONE, unsupported or a sequence
+pub opened-kind : (k : ℕ) → opens k ≡ true → (eqb k 0 ≡ false) × (unsupportedMember k ≡ false) × (eqb k 25 ≡ false)
+unfolding opens unsupportedMember
+opened-kind k e =
+    let i : T (both (leb 21 k) (leb k 23)) = rw e tt in
+    let low : 21 ≤ k = leb→le 21 k (both-left (leb 21 k) (leb k 23) i) in
+    let high : k ≤ 23 = leb→le k 23 (both-right (leb 21 k) (leb k 23) i) in
+    let at : (f : ℕ → Bool) → T (passes (λ x. not (f x)) 21 3) → f k ≡ false = λ f t. falsity (f k) (between (λ x. not (f x)) 3 21 t k low (omega arith)) in
+    (at (λ x. eqb x 0) tt, at unsupportedMember tt, at (λ x. eqb x 25) tt)
+  where
+    falsity : (x : Bool) → T (not x) → x ≡ false
+    falsity true h = absurd h
+    falsity false h = refl
 
 -- by a type's kind: the type with a number stands at a place of the book
 module _ (b index s : List ℕ) (set : Settings) (nest : Nest) (ty id : ℕ) (c : Cursor) (t : List ℕ) (n p k : ℕ) (at : PlaceOf b index ty p) (kind : k ≡ typeAt b p .kind) where
@@ -89,23 +76,22 @@ module _ (b index s : List ℕ) (set : Settings) (nest : Nest) (ty id : ℕ) (c 
       pub elements-full : y ≡ true → (z : Bool) → z ≡ noRoom t n → z ≡ true → Done elements n t t (Refused NoRoom)
       elements-full h z i j = is-refused (opened-list h ∙ no-room t n _ z i j) (filled-none t n)
 
-      pub elements-opened : y ≡ true → (z : Bool) → z ≡ noRoom t n → z ≡ false → (u : List ℕ) → u ≡ putRow t n (row 25 id k count) → (v : List ℕ) (r : Out)
-          → Done (openedFrom (typesBy b index) s set nest ty count 0 c (room u (n + 1))) (n + 1) u v r → Done elements n t v r
-      elements-opened h z i j u q v r d =
-          let w : Filled t u n (row 25 id k count ∷ []) = rw q (filled-one t n (row 25 id k count) (full-fits t n z i j)) in
-          is-same (opened-list h ∙ some-room t n _ z i j ∙ ap (λ (m : ℕ). prepend (row 25 id k count ∷ []) (openedFrom (typesBy b index) s set nest ty count 0 c m)) (room-used t u n 1 (w .long))) (is-after w d)
+      pub elements-opened : y ≡ true → (z : Bool) → z ≡ noRoom t n → z ≡ false → (i₁ i₂ : ℕ) → i₁ ≡ storedOf 25 → i₂ ≡ storedOf k → (u : List ℕ) → u ≡ putRow t n (row i₁ id i₂ count) → (v : List ℕ) (r : Out)
+          → Done (runOf nest ty 0 count 0 c (room u (n + 1))) (n + 1) u v r → Done elements n t v r
+      elements-opened h z i j i₁ i₂ l m u q v r d =
+          let w : Filled t u n (row 25 id k count ∷ []) = rw (q, l ∙ sequence-stored, m ∙ opened-stored k (sym g ∙ h)) (filled-one t n (row 25 id k count) (full-fits t n z i j)) in
+          is-same (opened-list h ∙ some-room t n _ z i j ∙ ap (λ (m : ℕ). prepend (row 25 id k count ∷ []) (openedFrom (typesBy b index) s set nest ty count 0 c m)) (room-used t u n 1 (w .long))
+          ∙ ap (prepend (row 25 id k count ∷ [])) (sym (run-list (typesBy b index) s set nest ty count 0 c (room u (n + 1))))) (is-after w d)
 
-      bytes-among : (eqb k 2 || eqb k 13) ≡ among (2 ∷ 13 ∷ []) k
-      bytes-among = simp or-false
+      module _ (h : y ≡ false) (z : Bool) (i : z ≡ isPrimitive k) where
+        pub elements-primitives : z ≡ true → (u : List ℕ) (r : Out) → Done (primitivesOf s set k id count c (room t n)) n t u r → Done elements n t u r
+        unfolding elementsOf
+        elements-primitives j u r d = is-same (rw (kind-no, ← e, f, ← g, h, ← i, j)) d
 
-      pub elements-block : y ≡ false → (eqb k 2 || eqb k 13) ≡ true → (u : List ℕ) (r : Out) → Done (blockOf s set k id count c (room t n)) n t u r → Done elements n t u r
-      unfolding elementsOf
-      elements-block h i u r d = is-same (rw (kind-no, ← e, f, ← g, h, sym bytes-among ∙ i)) d
-
-      pub elements-list : y ≡ false → (eqb k 2 || eqb k 13) ≡ false → (a : ℕ) → a ≡ readAs (typeAt b p) → (u : List ℕ) (r : Out) → Done (listOf s set a id count c (room t n)) n t u r → Done elements n t u r
-      unfolding elementsOf
-      elements-list h i a j u r d =
-          is-same (rw (tested unsupportedElement x false e f, tested opens y false g h, tested (among (2 ∷ 13 ∷ [])) _ false bytes-among i) (ap (λ (m : ℕ). listOf s set m id count c (room t n)) (ap readAs (sym (at .is)) ∙ sym j))) d
+        pub elements-others : z ≡ false → (a : ℕ) → a ≡ readAs (typeAt b p) → (u : List ℕ) (r : Out) → Done (bitmasksOrTextsOf s set a id count c (room t n)) n t u r → Done elements n t u r
+        unfolding elementsOf
+        elements-others j a l u r d =
+            is-same (rw (tested unsupportedElement x false e f, tested opens y false g h, tested isPrimitive z false i j) (ap (λ (m : ℕ). bitmasksOrTextsOf s set m id count c (room t n)) (ap readAs (sym (at .is)) ∙ sym l))) d
 
   -- a value
   abbrev valued : Outcome
@@ -114,6 +100,13 @@ module _ (b index s : List ℕ) (set : Settings) (nest : Nest) (ty id : ℕ) (c 
   pub value-none : k ≡ 0 → Done valued n t t (Read c n)
   unfolding valueOf
   value-none e = is-read {rs = []} (rw (kind-no, e)) (sym (add-zero n)) (filled-none t n)
+
+  -- what opens is none of the others
+  pub value-opens : (y : Bool) → y ≡ opens k → y ≡ true → (u : List ℕ) (r : Out) → Done (runOf nest ty id 1 0 c (room t n)) n t u r → Done valued n t u r
+  unfolding valueOf
+  value-opens y g h u r d =
+      let o = opened-kind k (sym g ∙ h) in
+      is-same (rw (ap (λ (z : ℕ). eqb z 0) kind-no ∙ o .0, ap unsupportedMember kind-no ∙ o .1, tested opens y true g h) (sym (run-single nest ty id c (room t n)))) d
 
   module _ (some : k ≡ 0 → ⊥) (x : Bool) (e : x ≡ unsupportedMember k) where
     pub value-unsupported : x ≡ true → Done valued n t t (Refused Unsupported)
@@ -124,9 +117,9 @@ module _ (b index s : List ℕ) (set : Settings) (nest : Nest) (ty id : ℕ) (c 
       here : eqb (typeNo (typesBy b index) ty .kind) 0 ≡ false
       here = ap (λ (z : ℕ). eqb z 0) kind-no ∙ ne-eqb k 0 some
 
-      pub value-nested : y ≡ true → (u : List ℕ) (r : Out) → Done (nest ty id c (room t n)) n t u r → Done valued n t u r
+      pub value-nested : y ≡ true → (u : List ℕ) (r : Out) → Done (runOf nest ty id 1 0 c (room t n)) n t u r → Done valued n t u r
       unfolding valueOf
-      value-nested h u r d = is-same (rw (kind-no, ne-eqb k 0 some, ← e, f, ← g, h)) d
+      value-nested h u r d = is-same (rw (kind-no, ne-eqb k 0 some, ← e, f, ← g, h) (sym (run-single nest ty id c (room t n)))) d
 
       list-among : (eqb k 25 || eqb k 26) ≡ among (25 ∷ 26 ∷ []) k
       list-among = simp or-false

@@ -3,5 +3,4 @@ pub mod Member
 pub mod Structure
 pub mod Union
 pub mod Nested
-pub mod Several
-pub mod Cycle
+pub mod Code

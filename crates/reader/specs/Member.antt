@@ -24,6 +24,7 @@ unfoldable pub byLength : Version → List BookType → BookType → Bool
 byLength Xcdr1 types t = false
 byLength Xcdr2 types t = both (isSequence t) (primitiveElement types t)
 
+-- "length / size elements"
 unfoldable pub elementCount : List BookType → BookType → ℕ → ℕ
 elementCount types t length = length / elementSizeOf (typeNo types (t .element) .kind)
 

@@ -13,7 +13,7 @@ use Rattle.table.specs.declared.out.Refusal.the-variants.{Unsupported}
 use Rattle.table.specs.Rows.{row}
 use Rattle.table.specs.Outcome.{Outcome, read, short, refused, roomFor, prepend, andThen}
 use Rattle.values.specs.Scalar.{scalarOf}
-use Rattle.values.specs.List.{listOf, blockOf}
+use Rattle.values.specs.List.{primitivesOf, bitmasksOrTextsOf}
 use Rattle.values.specs.Header.{countFrom}
 
 -- how a structure, enum or union is opened: its type's number, its id, the place, and the rows there is room for
@@ -48,8 +48,8 @@ module _ (types : List BookType) (s : List ℕ) (set : Settings) (nest : Nest) w
   elementsOf ty id count c room =
       pick (unsupportedElement (typeNo types ty .kind)) (refused Unsupported)
       (pick (opens (typeNo types ty .kind)) (openedList ty id count c room)
-      (pick (among (2 ∷ 13 ∷ []) (typeNo types ty .kind)) (blockOf s set (typeNo types ty .kind) id count c room)
-      (listOf s set (readAs (typeNo types ty)) id count c room)))
+      (pick (isPrimitive (typeNo types ty .kind)) (primitivesOf s set (typeNo types ty .kind) id count c room)
+      (bitmasksOrTextsOf s set (readAs (typeNo types ty)) id count c room)))
 
   -- a sequence or an array: how many elements, then the elements
   unfoldable pub listValue : BookType → ℕ → Cursor → ℕ → Outcome

@@ -1,12 +1,12 @@
 // A member: plain, optional, or found by its lookup.
 ghost use Rattle.book.specs.Places.{memberAt};
 ghost use Rattle.table.specs.Rows.{room};
-ghost use Rattle.table.specs.Outcome.{Done};
-ghost use Rattle.reader.specs.Cycle.{foundIn, mmemberIn, optionalIn, fmemberIn};
-use crate::fstruct;
+ghost use Rattle.table.specs.Code.Outcome.{Done};
+ghost use Rattle.reader.specs.Code.Cycle.{foundIn, mmemberIn, optionalIn, fmemberIn};
+use crate::as_nested;
 use crate::types::by_length;
 use crate::types::element_count;
-use crate::types::is_final_structure;
+use crate::types::kind_at;
 use crate::value::elements;
 use crate::value::value;
 use book::index::place;
@@ -23,7 +23,8 @@ use wire::number::Boolean;
 use wire::settings::Settings;
 use wire::settings::Version;
 
-// A member of a Final or Appendable type.
+// A member of a Final or Appendable type. A value that is opened is opened from here, which `value` would do too: the compiler takes this
+// into the structure's loop.
 pub fn fmember(
     book: &[u8],
     index: &[u32],
@@ -42,12 +43,10 @@ pub fn fmember(
         return option(book, index, s, set, t, p, c, n, depth);
     }
     let ty = m.ty;
-    let at = place(book, index, ty);
     let i = m.id as u64;
-    if is_final_structure(book, at) {
-        if 0 < depth {
-            return fstruct(book, index, s, set, t, at, ty, i, 1, c, n, depth - 1);
-        }
+    let at = place(book, index, ty);
+    if kinds::opens(kind_at(book, at)) {
+        return as_nested(book, index, s, set, t, ty, i, 1, c, n, depth);
     }
     value(book, index, s, set, t, ty, i, c, n, depth)
 }

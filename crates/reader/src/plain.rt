@@ -2,20 +2,20 @@
 ghost use Rattle.book.specs.Types.{typeNo};
 ghost use Rattle.book.specs.Places.{memberAt, typesBy};
 ghost use Rattle.table.specs.Rows.{room};
-ghost use Rattle.values.specs.Quick.{Quickly};
+ghost use Rattle.values.specs.Code.Quick.{Quickly};
 ghost use Rattle.reader.specs.Value.{Nest, readAs};
 ghost use Rattle.reader.specs.Member.{fmemberOf, foundOf};
 ghost use Prim.Native.Nat.{ℕ, _<_};
 ghost use mathlib.Core.Path.{_≡_};
-ghost use Rattle.lookup.specs.Ahead.{HeadOrEnd, Sought};
+ghost use Rattle.lookup.specs.Code.Ahead.{HeadOrEnd, HeaderAhead};
 use crate::types::read_as_there;
 use book::bytes::is_there;
 use book::index::place;
 use book::member::head_there;
 use lookup::ahead::Ahead;
 use lookup::ahead::Hint;
-use lookup::ahead::none;
-use lookup::ahead::sought;
+use lookup::ahead::header_ahead;
+use lookup::ahead::no_header;
 use wire::cursor::Cursor;
 use wire::settings::Settings;
 
@@ -55,7 +55,7 @@ pub fn take(
         return 0;
     }
     let kind = kind_of(book, index, m.ty);
-    values::quick::take(s, set, t, kind, m.id as u64, c, n)
+    values::quick::value_at(s, set, t, kind, m.id as u64, c, n)
 }
 
 // The same for a member that was found, whose id is known.
@@ -78,17 +78,17 @@ pub fn take_found(
     }
     let m = head_there(book, p);
     let kind = kind_of(book, index, m.ty);
-    values::quick::take_found(s, set, t, kind, i, c, n)
+    values::quick::found_value_at(s, set, t, kind, i, c, n)
 }
 
 // What the header where the hint says tells of the member at p, if that is there whole: so no byte of it is asked for again.
 pub fn ahead(book: &[u8], s: &[u8], set: Settings, p: usize, h: Hint, origin: usize) -> Ahead
     requires { ⌜ HeadOrEnd (now s) (h .next) origin ⌝ }
-    ensures { λ r. ⌜ Sought (now (s .entry)) set (memberAt (now (book .entry)) p .id) h origin r ⌝ }
+    ensures { λ r. ⌜ HeaderAhead (now (s .entry)) set (memberAt (now (book .entry)) p .id) h origin r ⌝ }
 {
     if !is_there(book, p, book::member::LAST) {
-        return none();
+        return no_header();
     }
     let m = head_there(book, p);
-    sought(s, set, m.id, h, origin)
+    header_ahead(s, set, m.id, h, origin)
 }

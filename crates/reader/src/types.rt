@@ -4,21 +4,15 @@ ghost use Rattle.book.specs.Places.{memberAt, typeAt, typesBy};
 ghost use Rattle.reader.specs.Value.{isSequence, primitiveElement, readAs};
 ghost use Rattle.reader.specs.Member.{byLength, elementCount};
 ghost use Rattle.reader.specs.Structure.{absorbs};
-ghost use Rattle.reader.specs.Nested.{isMutable, contentsAt};
-ghost use Rattle.reader.specs.Several.{isStructure, alignedFor, begunBy, endedBy};
-ghost use mathlib.Core.Bool.{true, false};
-ghost use Rattle.table.specs.Outcome.{Done};
+ghost use Rattle.reader.specs.Nested.{isMutable, beginningOf, endingBy};
+ghost use Rattle.table.specs.Code.Outcome.{Done};
 ghost use mathlib.Core.List.{List};
 ghost use Prim.Native.Nat.{ℕ, _+_, _<_};
 ghost use lib.ListN.{length};
-ghost use Rattle.book.specs.Types.{BookType};
-ghost use Rattle.lookup.specs.Ahead.{Led};
-ghost use Rattle.lookup.specs.Dheader.{endingAt};
+ghost use Rattle.lookup.specs.Code.Ahead.{TrueHint};
 use book::bytes::byte_there;
-use book::bytes::is_there;
 use book::bytes::quad_there;
 use book::index::place;
-use book::member::member_count;
 use book::types::bound;
 use book::types::element;
 use book::types::extensibility;
@@ -27,14 +21,12 @@ use kinds::names::BITMASK;
 use kinds::names::SEQUENCE;
 use kinds::names::STRUCTURE;
 use lookup::ahead::Hint;
-use lookup::dheader::Ending;
-use lookup::dheader::dheader;
-use lookup::xcdr1::PID_LIST_END;
-use lookup::xcdr1::seek_to_sentinel;
+use lookup::ahead::sentinel_from;
 use table::out::Out;
-use values::header::after_dheader;
 use wire::cursor::Cursor;
 use wire::cursor::Place;
+use wire::dheader::Contents;
+use wire::dheader::contents_at;
 use wire::settings::Settings;
 use wire::settings::Version;
 
@@ -60,46 +52,6 @@ pub fn is_mutable(book: &[u8], at: usize) -> bool
     ensures { λ r. ⌜ r ≡ isMutable (typeAt (now (book .entry)) at) ⌝ }
 {
     extensibility(book, at) == 2
-}
-
-// Whether a type of this kind and extensibility is a structure: a Mutable one, or one that is Final or Appendable.
-fn is_structure(kind: u8, extensibility: usize, mutable: bool) -> bool
-    ensures { λ r. ⌜ ((t : BookType) → kind ≡ t .kind → extensibility ≡ t .extensibility → r ≡ isStructure mutable t) ⌝ }
-{
-    if kind != STRUCTURE {
-        return false;
-    }
-    if mutable {
-        extensibility == 2
-    } else {
-        extensibility != 2
-    }
-}
-
-// Whether the type at a place is such. That its own bytes are there is asked once, and then of none of them.
-fn structure_at(book: &[u8], at: usize, mutable: bool) -> bool
-    ensures { λ r. ⌜ r ≡ isStructure mutable (typeAt (now (book .entry)) at) ⌝ }
-{
-    if is_there(book, at, book::types::LAST) {
-        return is_structure(
-            byte_there(book, at, 2) as u8,
-            byte_there(book, at, 3),
-            mutable,
-        );
-    }
-    is_structure(kind_at(book, at), extensibility(book, at), mutable)
-}
-
-pub fn is_final_structure(book: &[u8], at: usize) -> bool
-    ensures { λ r. ⌜ r ≡ isStructure false (typeAt (now (book .entry)) at) ⌝ }
-{
-    structure_at(book, at, false)
-}
-
-pub fn is_mutable_structure(book: &[u8], at: usize) -> bool
-    ensures { λ r. ⌜ r ≡ isStructure true (typeAt (now (book .entry)) at) ⌝ }
-{
-    structure_at(book, at, true)
 }
 
 // The kind that a value is read as: a bitmask's by its bound.
@@ -149,8 +101,7 @@ pub fn element_count(book: &[u8], index: &[u32], at: usize, length: u64) -> u64
     ensures { λ r. ⌜ r ≡ elementCount (typesBy (now (book .entry)) (now (index .entry))) (typeAt (now (book .entry)) at) length ⌝ }
 {
     let q = place(book, index, element(book, at));
-    let entry = kinds::of_kind(kind_at(book, q));
-    let size = entry.element;
+    let size = kinds::element_of(kind_at(book, q));
     length / (size as u64)
 }
 
@@ -161,87 +112,36 @@ pub fn absorbs(book: &[u8], at: usize, p: usize) -> bool
     (extensibility(book, at) == 1) | (book::member::construct(book, p) == 0)
 }
 
-// Serialization rules 29 and 30: where the contents of a Final or Appendable value begin.
-pub fn contents_at(book: &[u8], s: &[u8], set: Settings, at: usize, c: Cursor) -> Place
-    ensures { λ r. ⌜ r ≡ contentsAt (now (s .entry)) set (typeAt (now (book .entry)) at) c ⌝ }
+// Serialization rules 29 and 30: what begins a structure or a union, and where its members stand. Of a Mutable union a DHEADER that is
+// short is not heard: its members stand where it ran short.
+pub fn beginning(book: &[u8], s: &[u8], set: Settings, at: usize, c: Cursor) -> Contents
+    ensures { λ r. ⌜ r ≡ beginningOf (now (s .entry)) set (typeAt (now (book .entry)) at) c ⌝ }
 {
-    if extensibility(book, at) == 1 {
-        return after_dheader(s, set, c);
-    }
-    Place::At(c)
-}
-
-// The first lookup aligns to 4; a structure without members does not.
-fn aligned(book: &[u8], s: &[u8], set: Settings, at: usize, end: usize, c: Cursor) -> Ending
-    ensures { λ r. ⌜ r ≡ alignedFor (now (s .entry)) set (Ending.At end c) (typeAt (now (book .entry)) at .members) ⌝ }
-{
-    let version = set.version;
-    if member_count(book, at) == 0 {
-        return Ending::At(end, c);
-    }
-    match c.align(s, version, 4) {
-        Place::Short(x) => Ending::Short(x),
-        Place::At(d) => Ending::At(end, d),
-    }
-}
-
-// Where the members of a Mutable structure begin in XCDR2: after a DHEADER, which tells where it ends.
-fn after_its_dheader(book: &[u8], s: &[u8], set: Settings, at: usize, c: Cursor) -> Ending
-    ensures { λ r. ⌜ r ≡ alignedFor (now (s .entry)) set (endingAt (now (s .entry)) set c) (typeAt (now (book .entry)) at .members) ⌝ }
-{
-    match dheader(s, set, c) {
-        Ending::Short(x) => Ending::Short(x),
-        Ending::At(end, d) => aligned(book, s, set, at, end, d),
-    }
-}
-
-// Where they begin. What follows a DHEADER is aligned already, unless the cursor was before its origin, where no reading is.
-pub fn begun(book: &[u8], s: &[u8], set: Settings, at: usize, c: Cursor) -> Ending
-    ensures { λ r. ⌜ r ≡ alignedFor (now (s .entry)) set (begunBy (now (s .entry)) set (set .version) c) (typeAt (now (book .entry)) at .members) ⌝ }
-{
-    let version = set.version;
-    match version {
-        Version::Xcdr1 => aligned(book, s, set, at, 0, c),
-        Version::Xcdr2 => {
-            if c.pos < c.origin {
-                return after_its_dheader(book, s, set, at, c);
+    let extensibility = extensibility(book, at);
+    match contents_at(s, set, (extensibility == 1) | (extensibility == 2), c) {
+        Contents::Between(d, end) => Contents::Between(d, end),
+        Contents::Short(x) => {
+            if (extensibility == 2) & (kind_at(book, at) != STRUCTURE) {
+                let reached = x.at;
+                return Contents::Between(reached, s.len());
             }
-            dheader(s, set, c)
+            Contents::Short(x)
         }
     }
 }
 
-// What ends a Mutable structure, after n rows: the marker in XCDR1; in XCDR2 it ends where its DHEADER says, wherever its members were.
-fn ended(s: &[u8], set: Settings, end: usize, c: Cursor, n: usize) -> Out
-    ensures { λ r. ⌜ ((t : List ℕ) → Done (endedBy (now (s .entry)) set (set .version) end c) n t t r) ⌝ }
+// What ends a Mutable structure, after n rows: the marker in XCDR1, from where the hint says; in XCDR2 it ends where its DHEADER says,
+// wherever its members were.
+pub fn ending(s: &[u8], set: Settings, end: usize, c: Cursor, h: Hint, n: usize) -> Out
+    requires { ⌜ TrueHint (now s) set c (c .origin) h ⌝ }
+    ensures { λ r. ⌜ ((t : List ℕ) → Done (endingBy (now (s .entry)) set (set .version) end c) n t t r) ⌝ }
 {
     let version = set.version;
     match version {
-        Version::Xcdr1 => match seek_to_sentinel(s, set, c) {
+        Version::Xcdr1 => match sentinel_from(s, set, c, h) {
             Place::At(e) => Out::Read(e, n),
             Place::Short(x) => Out::Short(x),
         },
         Version::Xcdr2 => Out::Read(Cursor::new(end, c.origin), n),
-    }
-}
-
-// The same from where the hint says, which is nearer. XCDR2 asks nothing.
-pub fn ended_from(s: &[u8], set: Settings, end: usize, c: Cursor, h: Hint, n: usize) -> Out
-    requires { ⌜ Led (now s) set c (c .origin) h ⌝ }
-    ensures { λ r. ⌜ ((t : List ℕ) → Done (endedBy (now (s .entry)) set (set .version) end c) n t t r) ⌝ }
-{
-    let version = set.version;
-    match version {
-        Version::Xcdr1 => {
-            let next = h.next;
-            if PID_LIST_END < h.least as u64 {
-                return ended(s, set, end, c, n);
-            }
-            if s.len() - next < 4 {
-                return ended(s, set, end, c, n);
-            }
-            ended(s, set, end, Cursor::new(next, c.origin), n)
-        }
-        Version::Xcdr2 => ended(s, set, end, c, n),
     }
 }

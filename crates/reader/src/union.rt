@@ -1,10 +1,8 @@
 // Unions: the discriminator, and the member that it selects.
 ghost use Rattle.book.specs.Places.{typeAt, memberAt};
 ghost use Rattle.table.specs.Rows.{room};
-ghost use Rattle.table.specs.Outcome.{Done};
-ghost use mathlib.Core.Bool.{true, false};
-ghost use Rattle.values.specs.Header.{unheardDheader};
-ghost use Rattle.reader.specs.Cycle.{unionIn, chosenIn};
+ghost use Rattle.table.specs.Code.Outcome.{Done};
+ghost use Rattle.reader.specs.Code.Cycle.{unionIn, discriminatorIn, chosenIn};
 use crate::member::mmember;
 use crate::member::option;
 use crate::value::value;
@@ -18,30 +16,58 @@ use choice::discriminator::discriminator_at;
 use choice::select::select;
 use table::out::Out;
 use table::out::Refusal;
-use values::header::unheard_dheader;
 use wire::cursor::Cursor;
 use wire::settings::Settings;
 
-// Serialization rule 26: a Final or Appendable union, whose type is at `at`.
-pub fn funion(
+// Serialization rules 26 to 28: the members of a union, whose type is at `at`.
+pub fn union_type(
     book: &[u8],
     index: &[u32],
     s: &[u8],
     set: Settings,
     t: &mut [u64],
     at: usize,
+    mutable: bool,
     c: Cursor,
     n: usize,
     depth: usize,
 ) -> Out
-    ensures { λ r. ⌜ Done (unionIn (now (book .entry)) (now (index .entry)) (now (s .entry)) set depth false (typeAt (now (book .entry)) at) c (room (now (t .entry)) n)) n (now (t .entry)) (now (t .exit)) r ⌝ }
+    ensures { λ r. ⌜ Done (unionIn (now (book .entry)) (now (index .entry)) (now (s .entry)) set depth mutable (typeAt (now (book .entry)) at) c (room (now (t .entry)) n)) n (now (t .entry)) (now (t .exit)) r ⌝ }
 {
     let ms = members(book, at);
     let p = ms.at;
     if ms.left == 0 {
         return Out::Refused(Refusal::InvalidType);
     }
-    match value(
+    match discriminator(book, index, s, set, t, p, mutable, c, n, depth) {
+        Out::Read(d, m) => {
+            let v = discriminator_at(t, n, m);
+            chosen(book, index, s, set, t, at, p, mutable, v, d, m, depth)
+        }
+        Out::Short(x) => Out::Short(x),
+        Out::Refused(k) => Out::Refused(k),
+    }
+}
+
+// The discriminator at p: a Mutable union's is looked up, any other's read as not optional.
+pub fn discriminator(
+    book: &[u8],
+    index: &[u32],
+    s: &[u8],
+    set: Settings,
+    t: &mut [u64],
+    p: usize,
+    mutable: bool,
+    c: Cursor,
+    n: usize,
+    depth: usize,
+) -> Out
+    ensures { λ r. ⌜ Done (discriminatorIn (now (book .entry)) (now (index .entry)) (now (s .entry)) set depth mutable (memberAt (now (book .entry)) p) c (room (now (t .entry)) n)) n (now (t .entry)) (now (t .exit)) r ⌝ }
+{
+    if mutable {
+        return mmember(book, index, s, set, t, p, c, n, depth);
+    }
+    value(
         book,
         index,
         s,
@@ -52,53 +78,7 @@ pub fn funion(
         c,
         n,
         depth,
-    ) {
-        Out::Read(d, m) => {
-            let v = discriminator_at(t, n, m);
-            chosen(book, index, s, set, t, at, p, false, v, d, m, depth)
-        }
-        Out::Short(x) => Out::Short(x),
-        Out::Refused(k) => Out::Refused(k),
-    }
-}
-
-// Serialization rules 27 and 28: a Mutable union, whose type is at `at`.
-pub fn munion(
-    book: &[u8],
-    index: &[u32],
-    s: &[u8],
-    set: Settings,
-    t: &mut [u64],
-    at: usize,
-    c: Cursor,
-    n: usize,
-    depth: usize,
-) -> Out
-    ensures { λ r. ⌜ Done (unionIn (now (book .entry)) (now (index .entry)) (now (s .entry)) set depth true (typeAt (now (book .entry)) at) (unheardDheader (now (s .entry)) set c) (room (now (t .entry)) n)) n (now (t .entry)) (now (t .exit)) r ⌝ }
-{
-    let ms = members(book, at);
-    let p = ms.at;
-    if ms.left == 0 {
-        return Out::Refused(Refusal::InvalidType);
-    }
-    match mmember(
-        book,
-        index,
-        s,
-        set,
-        t,
-        p,
-        unheard_dheader(s, set, c),
-        n,
-        depth,
-    ) {
-        Out::Read(d, m) => {
-            let v = discriminator_at(t, n, m);
-            chosen(book, index, s, set, t, at, p, true, v, d, m, depth)
-        }
-        Out::Short(x) => Out::Short(x),
-        Out::Refused(k) => Out::Refused(k),
-    }
+    )
 }
 
 // The member that the discriminator at p selects.

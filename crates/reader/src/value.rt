@@ -1,13 +1,9 @@
 // A value by its type, and lists of values.
 ghost use Rattle.book.specs.Places.{typeAt};
 ghost use Rattle.table.specs.Rows.{room};
-ghost use Rattle.table.specs.Outcome.{Done};
-ghost use Rattle.reader.specs.Cycle.{openedIn, elementsIn, listIn, valueIn};
+ghost use Rattle.table.specs.Code.Outcome.{Done};
+ghost use Rattle.reader.specs.Code.Cycle.{elementsIn, listIn, valueIn};
 use crate::as_nested;
-use crate::fstruct;
-use crate::mstruct;
-use crate::types::is_final_structure;
-use crate::types::is_mutable_structure;
 use crate::types::is_sequence;
 use crate::types::kind_at;
 use crate::types::primitive_element;
@@ -16,18 +12,17 @@ use book::index::place;
 use book::types::bound;
 use book::types::element;
 use kinds::names::ARRAY;
-use kinds::names::BYTE;
 use kinds::names::NONE;
 use kinds::names::SEQUENCE;
-use kinds::names::UINT8;
+use kinds::stored_of;
 use table::out::Out;
 use table::out::Refusal;
 use table::rows::Row;
 use table::rows::is_full;
 use table::rows::put_row;
 use values::header::count_from;
-use values::list::block;
-use values::list::list;
+use values::list::bitmasks_or_texts;
+use values::list::primitives;
 use values::scalar::scalar;
 use wire::cursor::Cursor;
 use wire::number::Number;
@@ -57,7 +52,7 @@ pub fn value(
         return Out::Refused(Refusal::Unsupported);
     }
     if kinds::opens(kind) {
-        return as_nested(book, index, s, set, t, ty, id, c, n, depth);
+        return as_nested(book, index, s, set, t, ty, id, 1, c, n, depth);
     }
     if (kind == SEQUENCE) | (kind == ARRAY) {
         return listed(book, index, s, set, t, p, id, c, n, depth);
@@ -126,63 +121,16 @@ pub fn elements(
             return Out::Refused(Refusal::NoRoom);
         }
         let row = Row {
-            kind: 25,
+            kind: stored_of(SEQUENCE) as u64,
             id,
-            a: kind as u64,
+            a: stored_of(kind) as u64,
             b: count,
         };
         put_row(t, n, row);
-        return opened(book, index, s, set, t, ty, count, c, n + 1, depth);
+        return as_nested(book, index, s, set, t, ty, 0, count, c, n + 1, depth);
     }
-    if (kind == BYTE) | (kind == UINT8) {
-        return block(s, set, t, kind, id, count, c, n);
+    if kinds::is_primitive(kind) {
+        return primitives(s, set, t, kind, id, count, c, n);
     }
-    list(s, set, t, read_as(book, p), id, count, c, n)
-}
-
-// Elements that are opened, one after the other.
-pub fn opened(
-    book: &[u8],
-    index: &[u32],
-    s: &[u8],
-    set: Settings,
-    t: &mut [u64],
-    ty: usize,
-    count: u64,
-    c: Cursor,
-    n: usize,
-    depth: usize,
-) -> Out
-    ensures { λ r. ⌜ Done (openedIn (now (book .entry)) (now (index .entry)) (now (s .entry)) set depth ty count c (room (now (t .entry)) n)) n (now (t .entry)) (now (t .exit)) r ⌝ }
-{
-    let at = place(book, index, ty);
-    if is_final_structure(book, at) {
-        if 0 < depth {
-            return fstruct(book, index, s, set, t, at, ty, 0, count, c, n, depth - 1);
-        }
-    }
-    if is_mutable_structure(book, at) {
-        if 0 < depth {
-            return mstruct(book, index, s, set, t, at, ty, 0, count, c, n, depth - 1);
-        }
-    }
-    let mut i: u64 = 0;
-    let mut d = c;
-    let mut m = n;
-    while i < count {
-        match as_nested(book, index, s, set, t, ty, i, d, m, depth) {
-            Out::Read(e, k) => {
-                d = e;
-                m = k;
-            }
-            Out::Short(x) => {
-                return Out::Short(x);
-            }
-            Out::Refused(k) => {
-                return Out::Refused(k);
-            }
-        }
-        i += 1;
-    }
-    Out::Read(d, m)
+    bitmasks_or_texts(s, set, t, read_as(book, p), id, count, c, n)
 }

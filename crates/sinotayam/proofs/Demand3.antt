@@ -1,35 +1,37 @@
 -- DEMAND 3 OF THE CALLS: a message, or data, of a type that the check passes. The statements cite only definitions of `specs/`. Assumes nothing.
-use Prim.Native.Nat.{ℕ, _%_, _<_}
+use Prim.Native.Nat.{ℕ, _+_, _%_, _<_}
 use mathlib.Core.Path.{_≡_, refl, sym, _∙_}
 use mathlib.Core.Bool.{Bool, true, false}
 use mathlib.Core.List.{List}
 use native.Mathlib.Omega.{arith}
 use lib.Dec.{leb, ltb}
 use lib.ListN.{length, getD, drop, length-drop}
+use lib.Seq.{getD-drop}
 use borrow.Author.Tests.{ltb-true, lt-leb}
 use Rattle.wire.specs.declared.settings.Representation.{Representation}
 use Rattle.wire.specs.declared.settings.Representation.the-variants.{Known, Unknown}
 use Rattle.wire.specs.Identifier.{settingsOf}
 use Rattle.book.specs.Types.{BookType, typesOf, typeCount}
 use Rattle.book.proofs.Good.{length-types}
+use Rattle.table.specs.Rows.{capacity}
 use Rattle.fit.specs.Check.{checkOf}
-use Rattle.fit.specs.Demand3.{Checked, fit, bad-book, bad-root, unfit, finished-reading, too-few-bytes, invalid-data, full-table, absent-discriminator}
+use Rattle.fit.specs.Demand3.{AreBytes, Checked, fit, bad-book, bad-root, unfit, finished-reading, too-few-bytes, invalid-data, full-table, absent-discriminator}
 use Rattle.fit.proofs.Demand3.{check-says, demand-3}
-use Rattle.sinotayam.specs.declared.answer.Number.{Number}
-use Rattle.sinotayam.specs.declared.answer.Number.the-variants.{NotEnoughData, InvalidData, BadRoot, TooLong}
+use Rattle.sinotayam.specs.declared.answer.Status.{Status}
+use Rattle.sinotayam.specs.declared.answer.Status.the-variants.{NotEnoughData, InvalidData, BadRoot, TooLong}
 use Rattle.sinotayam.specs.declared.answer.Answer.{Answer}
 use Rattle.sinotayam.specs.Answer.{Result, codeOf, refusedBy, resultOf, Settled, Returned}
 use Rattle.sinotayam.specs.Entry.{refusedIf, byIdentifier, messageBy, dataBy, withBook, readOf, readDataOf}
 use Rattle.sinotayam.specs.Prepared.{prepareOf, preparedFrom, readPrepared, readDataPrepared}
-use Rattle.sinotayam.specs.Demand3.{ToldOf, told, over-limit, Safe, SafeCall, SafeWord}
+use Rattle.sinotayam.specs.Demand3.{CallNumber, of-reading, over-limit, Safe, SafeCall, SafeWord}
 use Rattle.sinotayam.proofs.Preparing.{prepared-same}
 
 module _ (book s : List ℕ) (root : ℕ) where
   -- what is refused before the reading begins
-  before : (n : Number) → ToldOf s (codeOf n) → (codeOf n ≡ 0 → ⊥) → Safe book s root (refusedBy n)
+  before : (n : Status) → CallNumber s (codeOf n) → (codeOf n ≡ 0 → ⊥) → Safe book s root (refusedBy n)
   before n t f = record { number = t; rows = λ e. absurd (f e) }
 
-  by-refused : (t : Bool) (n : Number) (next : Result) → (t ≡ true → Safe book s root (refusedBy n)) → (t ≡ false → Safe book s root next) → Safe book s root (refusedIf t n next)
+  by-refused : (t : Bool) (n : Status) (next : Result) → (t ≡ true → Safe book s root (refusedBy n)) → (t ≡ false → Safe book s root next) → Safe book s root (refusedIf t n next)
   unfolding refusedIf
   by-refused true n next p q = p refl
   by-refused false n next p q = q refl
@@ -38,12 +40,12 @@ module _ (book s : List ℕ) (root : ℕ) where
   unfolding codeOf
   too-long t next long rest = by-refused t TooLong next (λ e. before TooLong (over-limit (long e)) (λ z. omega arith)) (λ e. rest)
 
-  identified : (room : ℕ) (r : Representation) → checkOf book root ≡ 0 → Safe book s root (byIdentifier (typesOf book) root s room r)
+  identified : AreBytes s → (room : ℕ) (r : Representation) → checkOf book root ≡ 0 → Safe book s root (byIdentifier (typesOf book) root s room r)
   unfolding byIdentifier codeOf resultOf
-  identified room Unknown e = before InvalidData (told invalid-data) (λ z. omega arith)
-  identified room (Known set) e =
-      let u = demand-3 book s set root room e in
-      record { number = told (u .number); rows = u .rows }
+  identified bytes room Unknown e = before InvalidData (of-reading invalid-data) (λ z. omega arith)
+  identified bytes room (Known set) e =
+      let u = demand-3 book s bytes set root room e in
+      record { number = of-reading (u .number); rows = u .rows }
 
   -- a type that the check passes is one of a good book
   taken : (next : List BookType → Result) (n : ℕ) → Checked book root n → n ≡ 0 → Safe book s root (next (typesOf book)) → Safe book s root (withBook book (λ types. refusedIf (leb (length types) root) BadRoot (next types)))
@@ -55,34 +57,38 @@ module _ (book s : List ℕ) (root : ℕ) where
   taken next n (bad-root good out) z safe = absurd (omega arith)
   taken next n (unfit good low p) z safe = absurd (omega arith)
 
+-- a message's data are bytes where the message is
+data-bytes : (message : List ℕ) → AreBytes message → AreBytes (drop 4 message)
+data-bytes message bytes i = rw (getD-drop) (bytes (4 + i))
+
 -- FOR EVERY BOOK AND ROOT THAT THE CHECK PASSES, and every room
 module _ (book : List ℕ) (root room : ℕ) (passes : checkOf book root ≡ 0) where
   -- every message: its data is what stands after the four-byte header
-  pub message-demand-3 : (message : List ℕ) → Safe book (drop 4 message) root (readOf book root message room)
+  pub message-demand-3 : (message : List ℕ) → AreBytes message → Safe book (drop 4 message) root (readOf book root message room)
   unfolding messageBy codeOf
-  message-demand-3 message =
+  message-demand-3 message bytes =
       let s = drop 4 message in
       let long : ltb 65536 (length message) ≡ true → 65532 < length (drop 4 message) = λ e. simp length-drop (omega (arith, ltb-true 65536 (length message) e)) in
       taken book s root _ (checkOf book root) (check-says book root) passes
       (too-long book s root (ltb 65536 (length message)) _ long
-      (by-refused book s root (ltb (length message) 4) NotEnoughData _ (λ e. before book s root NotEnoughData (told too-few-bytes) (λ z. omega arith)) (λ e.
-      identified book s root room (settingsOf (getD message 0 0) (getD message 1 0)) passes)))
+      (by-refused book s root (ltb (length message) 4) NotEnoughData _ (λ e. before book s root NotEnoughData (of-reading too-few-bytes) (λ z. omega arith)) (λ e.
+      identified book s root (data-bytes message bytes) room (settingsOf (getD message 0 0) (getD message 1 0)) passes)))
 
   -- all data
-  pub data-demand-3 : (id s : List ℕ) → Safe book s root (readDataOf book root id s room)
+  pub data-demand-3 : (id s : List ℕ) → AreBytes s → Safe book s root (readDataOf book root id s room)
   unfolding dataBy
-  data-demand-3 id s =
+  data-demand-3 id s bytes =
       taken book s root _ (checkOf book root) (check-says book root) passes
       (too-long book s root (ltb 65532 (length s)) _ (λ e. ltb-true 65532 (length s) e)
-      (identified book s root room (settingsOf (getD id 0 0) (getD id 1 0)) passes))
+      (identified book s root bytes room (settingsOf (getD id 0 0) (getD id 1 0)) passes))
 
   -- and with the index that `prepare` leaves where it says 0
   module _ (lent : List ℕ) (said : prepareOf book lent ≡ 0) where
-    pub prepared-demand-3 : (message : List ℕ) → Safe book (drop 4 message) root (readPrepared book (preparedFrom book lent) root message room)
-    prepared-demand-3 message = rw (prepared-same book lent (λ types. messageBy types root message room) said) (message-demand-3 message)
+    pub prepared-demand-3 : (message : List ℕ) → AreBytes message → Safe book (drop 4 message) root (readPrepared book (preparedFrom book lent) root message room)
+    prepared-demand-3 message bytes = rw (prepared-same book lent (λ types. messageBy types root message room) said) (message-demand-3 message bytes)
 
-    pub data-prepared-demand-3 : (id s : List ℕ) → Safe book s root (readDataPrepared book (preparedFrom book lent) root id s room)
-    data-prepared-demand-3 id s = rw (prepared-same book lent (λ types. dataBy types root id s room) said) (data-demand-3 id s)
+    pub data-prepared-demand-3 : (id s : List ℕ) → AreBytes s → Safe book s root (readDataPrepared book (preparedFrom book lent) root id s room)
+    data-prepared-demand-3 id s bytes = rw (prepared-same book lent (λ types. dataBy types root id s room) said) (data-demand-3 id s bytes)
 
 -- AND OF THE CALLS THEMSELVES, by what they promise: `Settled`, and `Returned` for C
 pub call-demand-3 : (book s : List ℕ) (root : ℕ) (w : Result) (before after : List ℕ) (r : Answer) → Safe book s root w → Settled w before after r → SafeCall book s root before after r
@@ -92,12 +98,12 @@ call-demand-3 book s root w before after r safe d =
       rows = λ z. (w .rows, safe .rows (sym (d .number) ∙ z), d .count, d .table);
     }
 
-small : {s : List ℕ} {n : ℕ} → ToldOf s n → n < 256
-small (told finished-reading) = omega arith
-small (told too-few-bytes) = omega arith
-small (told invalid-data) = omega arith
-small (told full-table) = omega arith
-small (told absent-discriminator) = omega arith
+small : {s : List ℕ} {n : ℕ} → CallNumber s n → n < 256
+small (of-reading finished-reading) = omega arith
+small (of-reading too-few-bytes) = omega arith
+small (of-reading invalid-data) = omega arith
+small (of-reading full-table) = omega arith
+small (of-reading absent-discriminator) = omega arith
 small (over-limit h) = omega arith
 
 pub word-demand-3 : (book s : List ℕ) (root : ℕ) (w : Result) (before after : List ℕ) (r : ℕ) → Safe book s root w → Returned w before after r → SafeWord book s root before after r
@@ -108,3 +114,27 @@ word-demand-3 book s root w before after r safe d =
       number = rw n (safe .number);
       rows = λ z. (w .rows, safe .rows (sym n ∙ z), omega (arith, d .word), d .table);
     }
+
+-- ONE FOR EACH CALL: from `check` = 0 to what the call gives back and what its table holds. What a slice lends are bytes
+module _ (book : List ℕ) (root : ℕ) (passes : checkOf book root ≡ 0) (before after : List ℕ) where
+  module _ (message : List ℕ) (bytes : AreBytes message) where
+    pub read-safe : (r : Answer) → Settled (readOf book root message (capacity before)) before after r → SafeCall book (drop 4 message) root before after r
+    read-safe r d = call-demand-3 book (drop 4 message) root _ before after r (message-demand-3 book root (capacity before) passes message bytes) d
+
+    pub sinotayam-read-safe : (r : ℕ) → Returned (readOf book root message (capacity before)) before after r → SafeWord book (drop 4 message) root before after r
+    sinotayam-read-safe r d = word-demand-3 book (drop 4 message) root _ before after r (message-demand-3 book root (capacity before) passes message bytes) d
+
+    -- with the index that `prepare` leaves where it says 0
+    module _ (lent : List ℕ) (said : prepareOf book lent ≡ 0) where
+      pub read-prepared-safe : (r : Answer) → Settled (readPrepared book (preparedFrom book lent) root message (capacity before)) before after r → SafeCall book (drop 4 message) root before after r
+      read-prepared-safe r d = call-demand-3 book (drop 4 message) root _ before after r (prepared-demand-3 book root (capacity before) passes lent said message bytes) d
+
+      pub sinotayam-read-prepared-safe : (r : ℕ) → Returned (readPrepared book (preparedFrom book lent) root message (capacity before)) before after r → SafeWord book (drop 4 message) root before after r
+      sinotayam-read-prepared-safe r d = word-demand-3 book (drop 4 message) root _ before after r (prepared-demand-3 book root (capacity before) passes lent said message bytes) d
+
+  module _ (id s : List ℕ) (bytes : AreBytes s) where
+    pub read-data-safe : (r : Answer) → Settled (readDataOf book root id s (capacity before)) before after r → SafeCall book s root before after r
+    read-data-safe r d = call-demand-3 book s root _ before after r (data-demand-3 book root (capacity before) passes id s bytes) d
+
+    pub read-data-prepared-safe : (lent : List ℕ) → prepareOf book lent ≡ 0 → (r : Answer) → Settled (readDataPrepared book (preparedFrom book lent) root id s (capacity before)) before after r → SafeCall book s root before after r
+    read-data-prepared-safe lent said r d = call-demand-3 book s root _ before after r (data-prepared-demand-3 book root (capacity before) passes lent said id s bytes) d

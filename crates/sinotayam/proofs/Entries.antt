@@ -13,7 +13,7 @@ use Rattle.wire.specs.Identifier.{settingsOf}
 use Rattle.book.specs.Types.{BookType}
 use Rattle.book.specs.Places.{typesBy}
 use Rattle.reader.specs.Nested.{reading}
-use Rattle.sinotayam.specs.declared.answer.Number.the-variants.{NotEnoughData, InvalidData, BadRoot, TooLong}
+use Rattle.sinotayam.specs.declared.answer.Status.the-variants.{NotEnoughData, InvalidData, BadRoot, TooLong}
 use Rattle.sinotayam.specs.declared.answer.Answer.{Answer}
 use Rattle.sinotayam.specs.Answer.{refusedBy, resultOf, Settled}
 use Rattle.sinotayam.specs.Entry.{refusedIf, byIdentifier, messageBy, dataBy}

@@ -16,8 +16,8 @@ use Rattle.ground.specs.Choice.{pick}
 use Rattle.book.specs.Rules.{headOk, bookOk}
 use Rattle.book.proofs.Indexing.{places-spell, length-places}
 use Rattle.book.proofs.Good.{head-good, count-good}
-use Rattle.sinotayam.specs.declared.answer.Number.{Number}
-use Rattle.sinotayam.specs.declared.answer.Number.the-variants.{Read, BadBook, NoRoom}
+use Rattle.sinotayam.specs.declared.answer.Status.{Status}
+use Rattle.sinotayam.specs.declared.answer.Status.the-variants.{Read, BadBook, NoRoom}
 use Rattle.sinotayam.specs.declared.answer.Answer.{Answer}
 use Rattle.sinotayam.specs.Answer.{codeOf, Result, refusedBy, Settled}
 use Rattle.sinotayam.specs.Entry.{refusedIf, withBook}
@@ -43,7 +43,7 @@ module _ (b lent : List ℕ) (f : Bool) (is : f ≡ bookOk b) where
   broken : not f ≡ true → bookOk b ≡ false
   broken e = sym is ∙ not-true f e
 
-  pub prepare-bad : (r : Number) → not f ≡ true → r ≡ BadBook → codeOf r ≡ prepareOf b lent
+  pub prepare-bad : (r : Status) → not f ≡ true → r ≡ BadBook → codeOf r ≡ prepareOf b lent
   unfolding prepareOf codeOf
   prepare-bad r e g = rw (broken e, g)
 
@@ -55,7 +55,7 @@ module _ (b lent : List ℕ) (f : Bool) (is : f ≡ bookOk b) where
   kept : not f ≡ false → bookOk b ≡ true
   kept e = sym is ∙ not-false f e
 
-  pub prepare-short : (r : Number) (n : ℕ) → not f ≡ false → n ≡ typeCount b → length lent ≤ n → r ≡ NoRoom → codeOf r ≡ prepareOf b lent
+  pub prepare-short : (r : Status) (n : ℕ) → not f ≡ false → n ≡ typeCount b → length lent ≤ n → r ≡ NoRoom → codeOf r ≡ prepareOf b lent
   unfolding prepareOf hasPlaces codeOf
   prepare-short r n e g h k = rw (kept e, le-ltb (typeCount b) (length lent) (omega arith), k)
 
@@ -132,8 +132,8 @@ module _ (b lent : List ℕ) (next : List BookType → Result) where
       by-book false e g h = let z : _≡_ {A = ℕ} 8 0 = rw e at said in absurd (omega arith)
 
 -- the judge counts 64 types at most
-pub judged-few : (b : List ℕ) (n : ℕ) → n ≡ pick (bookOk b) (typeCount b) 0 → n ≤ 64
-judged-few b n g = by-book (bookOk b) refl
+pub own-few : (b : List ℕ) (n : ℕ) → n ≡ pick (bookOk b) (typeCount b) 0 → n ≤ 64
+own-few b n g = by-book (bookOk b) refl
   where
     by-book : (f : Bool) → bookOk b ≡ f → n ≤ 64
     by-book true e = let c : n ≡ typeCount b = rw e at g in omega (arith, count-good b e .1)
@@ -141,9 +141,9 @@ judged-few b n g = by-book (bookOk b) refl
 
 -- reading with an index of its own: the count, and the words t as the judge leaves them
 module _ (b t ys : List ℕ) (n : ℕ) (next : List BookType → Result) (long : 64 ≤ length t) (g : n ≡ pick (bookOk b) (typeCount b) 0) (k : ys ≡ pick (headOk b) (indexed b t) t) where
-  judged-good : bookOk b ≡ true → withIndex b (n ∷ (ys ++ [])) next ≡ withBook b next
+  own-good : bookOk b ≡ true → withIndex b (n ∷ (ys ++ [])) next ≡ withBook b next
   unfolding preparedFrom hasPlaces
-  judged-good e =
+  own-good e =
       let few : typeCount b ≤ 64 = count-good b e .1 in
       let h : ltb (typeCount b) (length (0 ∷ t)) ≡ true = lt-ltb (typeCount b) (length (0 ∷ t)) (omega arith) in
       let c : n ≡ typeCount b = rw e at g in
@@ -152,22 +152,22 @@ module _ (b t ys : List ℕ) (n : ℕ) (next : List BookType → Result) (long :
       let u : n ∷ (ys ++ []) ≡ preparedFrom b (0 ∷ t) = rw (e, h, append-nil ys, w, c) in
       rw u (same-good b (0 ∷ t) next e h)
 
-  judged-bad : bookOk b ≡ false → withIndex b (n ∷ (ys ++ [])) next ≡ withBook b next
+  own-bad : bookOk b ≡ false → withIndex b (n ∷ (ys ++ [])) next ≡ withBook b next
   unfolding withIndex withBook placesIn refusedIf
-  judged-bad e =
+  own-bad e =
       let z : n ≡ 0 = rw e at g in
       rw (e, z)
 
-  pub read-judged : (v w : List ℕ) (r : Answer) → Settled (withIndex b (n ∷ (ys ++ [])) next) v w r → Settled (withBook b next) v w r
-  read-judged v w r d = settled-same (sym (by-book (bookOk b) refl)) d
+  pub read-own : (v w : List ℕ) (r : Answer) → Settled (withIndex b (n ∷ (ys ++ [])) next) v w r → Settled (withBook b next) v w r
+  read-own v w r d = settled-same (sym (by-book (bookOk b) refl)) d
     where
       by-book : (f : Bool) → bookOk b ≡ f → withIndex b (n ∷ (ys ++ [])) next ≡ withBook b next
-      by-book true e = judged-good e
-      by-book false e = judged-bad e
+      by-book true e = own-good e
+      by-book false e = own-bad e
 
 -- its length
-pub judged-words : (b t ys : List ℕ) → ys ≡ pick (headOk b) (indexed b t) t → length t ≡ 64 → 65 ≡ suc (length (ys ++ []))
-judged-words b t ys k l = rw (append-nil ys, k) (by-head (headOk b))
+pub own-words : (b t ys : List ℕ) → ys ≡ pick (headOk b) (indexed b t) t → length t ≡ 64 → 65 ≡ suc (length (ys ++ []))
+own-words b t ys k l = rw (append-nil ys, k) (by-head (headOk b))
   where
     by-head : (f : Bool) → 65 ≡ suc (length (pick f (indexed b t) t))
     by-head true = simp (length-append, length-places, length-drop) (omega arith)

@@ -8,24 +8,25 @@ use lib.ListN.{length, replicate}
 use Rattle.wire.specs.declared.cursor.Cursor.{Cursor}
 use Rattle.wire.specs.declared.cursor.Shortage.{Shortage}
 use Rattle.wire.specs.declared.settings.Settings.{Settings}
-use Rattle.wire.specs.Place.{cursorAt}
 use Rattle.book.specs.Types.{BookType}
 use Rattle.table.specs.declared.rows.Row.{Row}
 use Rattle.table.specs.declared.out.Refusal.{Refusal}
 use Rattle.table.specs.declared.out.Out.{Out}
 use Rattle.table.specs.declared.out.Out.the-variants as out
-use Rattle.table.specs.Rows.{width, words, capacity, room, clearedFrom, Filled}
-use Rattle.table.specs.Outcome.{Outcome, read, refused, refusalNumber, numberOf, rowsOf, Done}
+use Rattle.table.specs.Rows.{width, words, capacity, room}
+use Rattle.table.specs.Code.Rows.{clearedFrom, Filled}
+use Rattle.table.specs.Outcome.{Outcome, read, refused, refusalNumber, numberOf, rowsOf}
+use Rattle.table.specs.Code.Outcome.{Done}
 use Rattle.table.proofs.Filling.{filled-fits}
 use Rattle.table.proofs.Outcomes.{was-read, was-short, was-refused}
-use Rattle.reader.specs.Nested.{nestedAt, reading}
-use Rattle.sinotayam.specs.declared.answer.Number.{Number}
-use Rattle.sinotayam.specs.declared.answer.Number.the-variants.{Read, NotEnoughData}
+use Rattle.reader.specs.Nested.{reading}
+use Rattle.sinotayam.specs.declared.answer.Status.{Status}
+use Rattle.sinotayam.specs.declared.answer.Status.the-variants.{Read, NotEnoughData}
 use Rattle.sinotayam.specs.declared.answer.Answer.{Answer}
 use Rattle.sinotayam.specs.Answer.{codeOf, Result, refusedBy, resultOf, Settled}
 
 -- a refused reading is refused by the number that stands for its reason
-refused-as : (n : Number) (k : Refusal) → codeOf n ≡ refusalNumber k → resultOf (refused k) ≡ refusedBy n
+refused-as : (n : Status) (k : Refusal) → codeOf n ≡ refusalNumber k → resultOf (refused k) ≡ refusedBy n
 unfolding resultOf numberOf rowsOf
 refused-as n k e = rw e
 
@@ -34,16 +35,16 @@ pub settled-same : {w x : Result} {t v : List ℕ} {r : Answer} → w ≡ x → 
 settled-same e d = rw e d
 
 -- a table as long
-pub settled-long : (n : Number) (t u : List ℕ) {v : List ℕ} {r : Answer} → length u ≡ length t → Settled (refusedBy n) u v r → Settled (refusedBy n) t v r
+pub settled-long : (n : Status) (t u : List ℕ) {v : List ℕ} {r : Answer} → length u ≡ length t → Settled (refusedBy n) u v r → Settled (refusedBy n) t v r
 unfolding words
 settled-long n t u e d = record { number = d .number; count = d .count; table = rw e at (d .table) }
 
-pub settled-cleared : (t v : List ℕ) (n : Number) → v ≡ clearedFrom (width * 0) t → Settled (refusedBy n) t v (record { number = n; rows = 0 })
+pub settled-cleared : (t v : List ℕ) (n : Status) → v ≡ clearedFrom (width * 0) t → Settled (refusedBy n) t v (record { status = n; rows = 0 })
 unfolding words
 settled-cleared t v n f = record { number = refl; count = refl; table = f }
 
 -- over rows that are a variable: `rw` cannot rewrite m inside `(was-read h q) .new`, which is made from m
-settled-rows : (o : Outcome) (t u v : List ℕ) (e : Cursor) (m : ℕ) (rs : List Row) → o ≡ read e rs → m ≡ 0 + length rs → Filled t u 0 rs → v ≡ clearedFrom (width * m) u → Settled (resultOf o) t v (record { number = Read; rows = m })
+settled-rows : (o : Outcome) (t u v : List ℕ) (e : Cursor) (m : ℕ) (rs : List Row) → o ≡ read e rs → m ≡ 0 + length rs → Filled t u 0 rs → v ≡ clearedFrom (width * m) u → Settled (resultOf o) t v (record { status = Read; rows = m })
 unfolding resultOf numberOf rowsOf codeOf
 settled-rows o t u v e m rs p q f g =
     let k : m ≡ length rs = omega arith in
@@ -53,10 +54,10 @@ settled-rows o t u v e m rs p q f g =
       table = rw (p, g, k, f .long) (ap (λ (l : List ℕ). l ++ replicate (length t - width * length rs) 0) (f .rows));
     }
 
-module _ (types : List BookType) (s : List ℕ) (set : Settings) (root : ℕ) (t u : List ℕ) (c : Cursor) (at : c ≡ cursorAt 0 0) (r : Out) (h : Done (nestedAt types s set 16 root 0 c (room t 0)) 0 t u r) where
-  is-reading : reading types s set root (capacity t) ≡ nestedAt types s set 16 root 0 c (room t 0)
-  unfolding reading room
-  is-reading = rw (at, sub-zero)
+module _ (types : List BookType) (s : List ℕ) (set : Settings) (root : ℕ) (t u : List ℕ) (r : Out) (h : Done (reading types s set root (room t 0)) 0 t u r) where
+  is-reading : reading types s set root (capacity t) ≡ reading types s set root (room t 0)
+  unfolding room
+  is-reading = rw sub-zero
 
   pub whole-fits : (e : Cursor) (m : ℕ) → r ≡ out.Read e m → width * m ≤ length u
   whole-fits e m q =
@@ -64,7 +65,7 @@ module _ (types : List BookType) (s : List ℕ) (set : Settings) (root : ℕ) (t
       let f : width * length (w .new) ≤ length t - width * 0 = filled-fits (w .filled) in
       omega (arith, w .count, w .filled .long)
 
-  pub whole-read : (e : Cursor) (m : ℕ) (v : List ℕ) → r ≡ out.Read e m → v ≡ clearedFrom (width * m) u → Settled (resultOf (reading types s set root (capacity t))) t v (record { number = Read; rows = m })
+  pub whole-read : (e : Cursor) (m : ℕ) (v : List ℕ) → r ≡ out.Read e m → v ≡ clearedFrom (width * m) u → Settled (resultOf (reading types s set root (capacity t))) t v (record { status = Read; rows = m })
   whole-read e m v q f = let w = was-read h q in settled-rows _ t u v e m (w .new) (is-reading ∙ w .is) (w .count) (w .filled) f
 
   pub whole-short : (x : Shortage) (v : List ℕ) (a : Answer) → r ≡ out.Short x → Settled (refusedBy NotEnoughData) u v a → Settled (resultOf (reading types s set root (capacity t))) t v a
@@ -73,7 +74,7 @@ module _ (types : List BookType) (s : List ℕ) (set : Settings) (root : ℕ) (t
       let w = was-short h q in
       settled-same (ap resultOf (is-reading ∙ w .is)) (settled-long NotEnoughData t u (w .filled .long) d)
 
-  pub whole-refused : (k : Refusal) (n : Number) (v : List ℕ) (a : Answer) → r ≡ out.Refused k → codeOf n ≡ refusalNumber k → Settled (refusedBy n) u v a → Settled (resultOf (reading types s set root (capacity t))) t v a
+  pub whole-refused : (k : Refusal) (n : Status) (v : List ℕ) (a : Answer) → r ≡ out.Refused k → codeOf n ≡ refusalNumber k → Settled (refusedBy n) u v a → Settled (resultOf (reading types s set root (capacity t))) t v a
   whole-refused k n v a q f d =
       let w = was-refused h q in
       settled-same (ap resultOf (is-reading ∙ w .is) ∙ refused-as n k f) (settled-long n t u (w .filled .long) d)

@@ -13,7 +13,7 @@ use borrow.Author.Tests.{le-leb, lt-leb, leb-true, ne-eqb, not-true, not-false}
 use Rattle.ground.specs.Choice.{pick, both, among}
 use Rattle.ground.proofs.Tests.{both-false}
 use Rattle.table.specs.declared.rows.Row.{Row}
-use Rattle.sinotayam.specs.declared.answer.Number.the-variants.{Read, NotText}
+use Rattle.sinotayam.specs.declared.answer.Status.the-variants.{Read, NotText}
 use Rattle.sinotayam.specs.declared.texts.Span.{Span}
 use Rattle.sinotayam.specs.declared.texts.Span.the-variants.{At, Nothing}
 use Rattle.sinotayam.specs.Answer.{codeOf}

@@ -6,12 +6,12 @@ use lib.ListN.{length, replicate}
 use Rattle.table.specs.declared.rows.Row.{Row}
 use Rattle.table.specs.Rows.{width, words}
 use Rattle.table.specs.Outcome.{Outcome, numberOf, rowsOf}
-use Rattle.sinotayam.specs.declared.answer.Number.{Number}
-use Rattle.sinotayam.specs.declared.answer.Number.the-variants.{Read, NotEnoughData, InvalidData, InvalidType, PidNotFound, BadBook, BadRoot, TooLong, Unsupported, TooDeep, NoRoom, NoDiscriminator, NotText, Unfit}
+use Rattle.sinotayam.specs.declared.answer.Status.{Status}
+use Rattle.sinotayam.specs.declared.answer.Status.the-variants.{Read, NotEnoughData, InvalidData, InvalidType, PidNotFound, BadBook, BadRoot, TooLong, Unsupported, TooDeep, NoRoom, NoDiscriminator, NotText, Unfit}
 use Rattle.sinotayam.specs.declared.answer.Answer.{Answer}
 
 -- "Numbers given back"
-unfoldable pub codeOf : Number → ℕ
+unfoldable pub codeOf : Status → ℕ
 codeOf Read = 0
 codeOf NotEnoughData = 1
 codeOf InvalidData = 2
@@ -33,7 +33,7 @@ pub record Result : Type 0 where
   pub rows : List Row
 
 -- "Every refused reading returns 0 rows"
-abbrev pub refusedBy : Number → Result
+abbrev pub refusedBy : Status → Result
 refusedBy n = record { number = codeOf n; rows = [] }
 
 -- a reading's own number and rows
@@ -47,7 +47,7 @@ tableOf lent rs = words rs ++ replicate (length lent - width * length rs) 0
 
 -- the number, the count of rows, and every word of the lent table
 pub record Settled (w : Result) (before after : List ℕ) (r : Answer) : Type 0 where
-  pub number : codeOf (r .number) ≡ w .number
+  pub number : codeOf (r .status) ≡ w .number
   pub count : r .rows ≡ length (w .rows)
   pub table : after ≡ tableOf before (w .rows)
 

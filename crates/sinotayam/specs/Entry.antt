@@ -10,12 +10,12 @@ use Rattle.wire.specs.Identifier.{settingsOf}
 use Rattle.book.specs.Types.{BookType, typesOf}
 use Rattle.book.specs.Rules.{bookOk}
 use Rattle.reader.specs.Nested.{reading}
-use Rattle.sinotayam.specs.declared.answer.Number.{Number}
-use Rattle.sinotayam.specs.declared.answer.Number.the-variants.{NotEnoughData, InvalidData, BadBook, BadRoot, TooLong}
+use Rattle.sinotayam.specs.declared.answer.Status.{Status}
+use Rattle.sinotayam.specs.declared.answer.Status.the-variants.{NotEnoughData, InvalidData, BadBook, BadRoot, TooLong}
 use Rattle.sinotayam.specs.Answer.{Result, refusedBy, resultOf}
 
 -- this number where the test passes, else what follows
-unfoldable pub refusedIf : Bool → Number → Result → Result
+unfoldable pub refusedIf : Bool → Status → Result → Result
 refusedIf true n next = refusedBy n
 refusedIf false n next = next
 
@@ -25,7 +25,7 @@ byIdentifier types root s room Unknown = refusedBy InvalidData
 byIdentifier types root s room (Known set) = resultOf (reading types s set root room)
 
 -- a message of a type of these: two bytes of identifier, two of options, then the data.
--- "9 BadRoot: root index not below the number of types", "10 TooLong: message over 65,536 bytes", "message under 4 bytes (1)"
+-- 9, "BadRoot: root index not below the number of types", 10, "TooLong: message over 65,536 bytes", "message under 4 bytes (1)"
 unfoldable pub messageBy : List BookType → ℕ → List ℕ → ℕ → Result
 messageBy types root message room =
     refusedIf (leb (length types) root) BadRoot
@@ -40,7 +40,7 @@ dataBy types root id s room =
     (refusedIf (ltb 65532 (length s)) TooLong
     (byIdentifier types root s room (settingsOf (getD id 0 0) (getD id 1 0))))
 
--- "8 BadBook: a book rule below is broken"; else what follows, with the types of the book
+-- 8, "BadBook: a book rule below is broken"; else what follows, with the types of the book
 unfoldable pub withBook : List ℕ → (List BookType → Result) → Result
 withBook book next = refusedIf (not (bookOk book)) BadBook (next (typesOf book))
 

@@ -9,7 +9,7 @@ use Rattle.ground.specs.Choice.{pick, both}
 use Rattle.book.specs.Types.{BookType, typeCount}
 use Rattle.book.specs.Places.{placesFrom, typesBy}
 use Rattle.book.specs.Rules.{bookOk}
-use Rattle.sinotayam.specs.declared.answer.Number.the-variants.{BadBook}
+use Rattle.sinotayam.specs.declared.answer.Status.the-variants.{BadBook}
 use Rattle.sinotayam.specs.Answer.{Result}
 use Rattle.sinotayam.specs.Entry.{refusedIf, messageBy, dataBy}
 
@@ -17,7 +17,7 @@ use Rattle.sinotayam.specs.Entry.{refusedIf, messageBy, dataBy}
 unfoldable pub hasPlaces : List ℕ → List ℕ → Bool
 hasPlaces book lent = ltb (typeCount book) (length lent)
 
--- the number of preparing: "8 BadBook", 13 where the lent index is too short, else 0
+-- the number of preparing: 8, "BadBook", 13 where the lent index is too short, else 0
 unfoldable pub prepareOf : List ℕ → List ℕ → ℕ
 prepareOf book lent = pick (bookOk book) (pick (hasPlaces book lent) 0 13) 8
 

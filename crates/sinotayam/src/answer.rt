@@ -6,7 +6,7 @@ use table::out::Refusal;
 use table::rows::clear_after;
 
 // Document 01's "Numbers given back".
-pub enum Number {
+pub enum Status {
     Read,
     NotEnoughData,
     InvalidData,
@@ -24,51 +24,51 @@ pub enum Number {
 }
 
 pub struct Answer {
-    pub number: Number,
+    pub status: Status,
     pub rows: usize,
 }
 
-impl Number {
+impl Status {
     // The number as document 01 writes it.
     pub fn code(self) -> u8
         ensures { λ r. ⌜ r ≡ codeOf self ⌝ }
     {
         match self {
-            Number::Read => 0,
-            Number::NotEnoughData => 1,
-            Number::InvalidData => 2,
-            Number::InvalidType => 3,
-            Number::PidNotFound => 4,
-            Number::BadBook => 8,
-            Number::BadRoot => 9,
-            Number::TooLong => 10,
-            Number::Unsupported => 11,
-            Number::TooDeep => 12,
-            Number::NoRoom => 13,
-            Number::NoDiscriminator => 14,
-            Number::NotText => 15,
-            Number::Unfit => 16,
+            Status::Read => 0,
+            Status::NotEnoughData => 1,
+            Status::InvalidData => 2,
+            Status::InvalidType => 3,
+            Status::PidNotFound => 4,
+            Status::BadBook => 8,
+            Status::BadRoot => 9,
+            Status::TooLong => 10,
+            Status::Unsupported => 11,
+            Status::TooDeep => 12,
+            Status::NoRoom => 13,
+            Status::NoDiscriminator => 14,
+            Status::NotText => 15,
+            Status::Unfit => 16,
         }
     }
 
-    pub fn of_refusal(k: Refusal) -> Number
+    pub fn of_refusal(k: Refusal) -> Status
         ensures { λ r. ⌜ codeOf r ≡ refusalNumber k ⌝ }
     {
         match k {
-            Refusal::InvalidData => Number::InvalidData,
-            Refusal::InvalidType => Number::InvalidType,
-            Refusal::Unsupported => Number::Unsupported,
-            Refusal::TooDeep => Number::TooDeep,
-            Refusal::NoRoom => Number::NoRoom,
-            Refusal::NoDiscriminator => Number::NoDiscriminator,
+            Refusal::InvalidData => Status::InvalidData,
+            Refusal::InvalidType => Status::InvalidType,
+            Refusal::Unsupported => Status::Unsupported,
+            Refusal::TooDeep => Status::TooDeep,
+            Refusal::NoRoom => Status::NoRoom,
+            Refusal::NoDiscriminator => Status::NoDiscriminator,
         }
     }
 }
 
 // A refusal: no rows, and the whole table zero.
-pub fn refused(table: &mut [u64], number: Number) -> Answer
-    ensures { λ r. ⌜ Settled (refusedBy number) (now (table .entry)) (now (table .exit)) r ⌝ }
+pub fn refused(table: &mut [u64], status: Status) -> Answer
+    ensures { λ r. ⌜ Settled (refusedBy status) (now (table .entry)) (now (table .exit)) r ⌝ }
 {
     clear_after(table, 0);
-    Answer { number, rows: 0 }
+    Answer { status, rows: 0 }
 }

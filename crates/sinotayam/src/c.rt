@@ -10,18 +10,18 @@ use crate::answer::Answer;
 use crate::prepared::prepare;
 use crate::read;
 use crate::read_prepared;
-use crate::texts::text_number;
+use crate::texts::text_status;
 
 // 2 to the 56th: beside the number's byte a word has 56 bits for the count of rows.
 const COUNTS: u64 = 72057594037927936;
 
 // The number and the count of rows in one word, which is what a C call hands back.
 fn pack(a: Answer) -> u64
-    ensures { λ r. ⌜ r ≡ packed (codeOf (a .number)) (a .rows) ⌝ }
+    ensures { λ r. ⌜ r ≡ packed (codeOf (a .status)) (a .rows) ⌝ }
 {
-    let number = a.number;
+    let status = a.status;
     let rows = a.rows as u64;
-    rows % COUNTS * 256 + ground::wide(number.code())
+    rows % COUNTS * 256 + ground::wide(status.code())
 }
 
 #[no_mangle]
@@ -63,5 +63,5 @@ pub extern "C" fn sinotayam_read_prepared(
 pub extern "C" fn sinotayam_text(table: &[u64], row: usize, s: &[u8]) -> u8
     ensures { λ r. ⌜ r ≡ textNumber (now (table .entry)) row (now (s .entry)) ⌝ }
 {
-    text_number(table, row, s).code()
+    text_status(table, row, s).code()
 }

@@ -13,7 +13,7 @@ pub mod reading;
 pub mod texts;
 
 use crate::answer::Answer;
-use crate::answer::Number;
+use crate::answer::Status;
 use crate::answer::refused;
 use crate::prepared::WORDS;
 use crate::prepared::count;
@@ -28,13 +28,13 @@ fn message_by(book: &[u8], places: &[u32], root: usize, message: &[u8], table: &
     ensures { λ r. ⌜ Settled (messageBy (typesBy (now (book .entry)) (now (places .entry))) root (now (message .entry)) (capacity (now (table .entry)))) (now (table .entry)) (now (table .exit)) r ⌝ }
 {
     if places.len() <= root {
-        return refused(table, Number::BadRoot);
+        return refused(table, Status::BadRoot);
     }
     if LONGEST < message.len() {
-        return refused(table, Number::TooLong);
+        return refused(table, Status::TooLong);
     }
     if message.len() < HEADER {
-        return refused(table, Number::NotEnoughData);
+        return refused(table, Status::NotEnoughData);
     }
     let id = [message[0], message[1]];
     identified(book, places, root, id, &message[HEADER..], table)
@@ -53,7 +53,7 @@ pub fn read_prepared(
 {
     let n = count(index);
     if n == 0 {
-        return refused(table, Number::BadBook);
+        return refused(table, Status::BadBook);
     }
     let end = n + 1;
     message_by(book, &index[1..end], root, message, table)
@@ -71,7 +71,7 @@ pub fn read_data_prepared(
 {
     let n = count(index);
     if n == 0 {
-        return refused(table, Number::BadBook);
+        return refused(table, Status::BadBook);
     }
     let end = n + 1;
     data_by(book, &index[1..end], root, id, s, table)

@@ -4,7 +4,7 @@ ghost use Prim.Native.Nat.{_-_, _≤_};
 ghost use lib.ListN.{length, set};
 ghost use Rattle.sinotayam.specs.Answer.{codeOf};
 ghost use Rattle.sinotayam.specs.Prepared.{prepareOf, preparedFrom, placesIn};
-use crate::answer::Number;
+use crate::answer::Status;
 use book::index::index;
 use book::judge::judge;
 use book::types::type_count;
@@ -13,31 +13,31 @@ use book::types::type_count;
 pub const WORDS: usize = 65;
 
 // Leaves an index of no types.
-fn unprepared(lent: &mut [u32], number: Number) -> Number
-    ensures { λ r. ⌜ (r ≡ number) × (now (lent .exit) ≡ set (now (lent .entry)) 0 0) ⌝ }
+fn unprepared(lent: &mut [u32], status: Status) -> Status
+    ensures { λ r. ⌜ (r ≡ status) × (now (lent .exit) ≡ set (now (lent .entry)) 0 0) ⌝ }
 {
     if lent.len() == 0 {
-        return number;
+        return status;
     }
     lent[0] = 0;
-    number
+    status
 }
 
 // Judges a book, and fills the lent index for `read_prepared`. A refused book, and an index that is too short, leave an index of no types,
 // with which every reading is refused.
-pub fn prepare(book: &[u8], lent: &mut [u32]) -> Number
+pub fn prepare(book: &[u8], lent: &mut [u32]) -> Status
     ensures { λ r. ⌜ (codeOf r ≡ prepareOf (now (book .entry)) (now (lent .entry))) × (now (lent .exit) ≡ preparedFrom (now (book .entry)) (now (lent .entry))) ⌝ }
 {
     if !judge(book) {
-        return unprepared(lent, Number::BadBook);
+        return unprepared(lent, Status::BadBook);
     }
     let n = type_count(book);
     if lent.len() <= n {
-        return unprepared(lent, Number::NoRoom);
+        return unprepared(lent, Status::NoRoom);
     }
     index(book, &mut lent[1..]);
     lent[0] = n as u32;
-    Number::Read
+    Status::Read
 }
 
 // How many types an index holds: as many as it says, and no more than it has.

@@ -7,12 +7,11 @@ ghost use Rattle.table.specs.Rows.{capacity};
 ghost use Rattle.sinotayam.specs.Answer.{resultOf, Settled};
 ghost use Rattle.sinotayam.specs.Entry.{byIdentifier, dataBy};
 use crate::answer::Answer;
-use crate::answer::Number;
+use crate::answer::Status;
 use crate::answer::refused;
-use reader::as_nested;
+use reader::top_level_type;
 use table::out::Out;
 use table::rows::clear_after;
-use wire::cursor::Cursor;
 use wire::settings::Representation;
 use wire::settings::Settings;
 use wire::settings::settings_of;
@@ -22,9 +21,6 @@ pub const LONGEST: usize = 65536;
 
 // The bytes before a message's data: its identifier and its options.
 pub const HEADER: usize = 4;
-
-// How many values may be opened one in the other; the root is the first.
-const DEPTH: usize = 16;
 
 // Reads data that is written as `set` says: the rows, and zeros after the last.
 fn data_as(
@@ -37,27 +33,16 @@ fn data_as(
 ) -> Answer
     ensures { λ r. ⌜ Settled (resultOf (reading (typesBy (now (book .entry)) (now (places .entry))) (now (s .entry)) set root (capacity (now (table .entry))))) (now (table .entry)) (now (table .exit)) r ⌝ }
 {
-    match as_nested(
-        book,
-        places,
-        s,
-        set,
-        table,
-        root,
-        0,
-        Cursor::new(0, 0),
-        0,
-        DEPTH,
-    ) {
+    match top_level_type(book, places, s, set, table, root) {
         Out::Read(_, rows) => {
             clear_after(table, rows);
             Answer {
-                number: Number::Read,
+                status: Status::Read,
                 rows,
             }
         }
-        Out::Short(_) => refused(table, Number::NotEnoughData),
-        Out::Refused(k) => refused(table, Number::of_refusal(k)),
+        Out::Short(_) => refused(table, Status::NotEnoughData),
+        Out::Refused(k) => refused(table, Status::of_refusal(k)),
     }
 }
 
@@ -74,7 +59,7 @@ pub fn identified(
 {
     match settings_of(id) {
         Representation::Known(set) => data_as(book, places, root, set, s, table),
-        Representation::Unknown => refused(table, Number::InvalidData),
+        Representation::Unknown => refused(table, Status::InvalidData),
     }
 }
 
@@ -90,10 +75,10 @@ pub fn data_by(
     ensures { λ r. ⌜ Settled (dataBy (typesBy (now (book .entry)) (now (places .entry))) root id (now (s .entry)) (capacity (now (table .entry)))) (now (table .entry)) (now (table .exit)) r ⌝ }
 {
     if places.len() <= root {
-        return refused(table, Number::BadRoot);
+        return refused(table, Status::BadRoot);
     }
     if LONGEST - HEADER < s.len() {
-        return refused(table, Number::TooLong);
+        return refused(table, Status::TooLong);
     }
     identified(book, places, root, id, s, table)
 }

@@ -2,7 +2,7 @@
 ghost use mathlib.Core.Path.{_≡_};
 ghost use Rattle.sinotayam.specs.Answer.{codeOf};
 ghost use Rattle.sinotayam.specs.Text.{spanOf, spanIn, textOf, textNumber};
-use crate::answer::Number;
+use crate::answer::Status;
 use table::rows::Row;
 use table::rows::row_at;
 
@@ -62,11 +62,11 @@ pub fn text<'a>(table: &[u64], row: usize, s: &'a [u8]) -> &'a [u8]
 }
 
 // Which of the two it is: Read or NotText.
-pub fn text_number(table: &[u64], row: usize, s: &[u8]) -> Number
+pub fn text_status(table: &[u64], row: usize, s: &[u8]) -> Status
     ensures { λ r. ⌜ codeOf r ≡ textNumber (now (table .entry)) row (now (s .entry)) ⌝ }
 {
     match span_in(table, row, s) {
-        Span::At(_, _) => Number::Read,
-        Span::Nothing => Number::NotText,
+        Span::At(_, _) => Status::Read,
+        Span::Nothing => Status::NotText,
     }
 }

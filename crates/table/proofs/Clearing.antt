@@ -6,7 +6,7 @@ use native.Mathlib.Numerals.{add-one}
 use native.Mathlib.Omega.{arith}
 use lib.ListN.{length, take, set, replicate, length-set}
 use lib.Seq.{take-all, take-suc-set, append-snoc}
-use Rattle.table.specs.Rows.{clearedFrom}
+use Rattle.table.specs.Code.Rows.{clearedFrom}
 
 pub cleared-turn : (t : List ℕ) (i : ℕ) → i < length t → clearedFrom (i + 1) (set t i 0) ≡ clearedFrom i t
 cleared-turn t i h =

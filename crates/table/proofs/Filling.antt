@@ -10,7 +10,8 @@ use lib.Seq.{take-take, drop-drop, take-add, take-at, drop-at, sets-eq, length-t
 use mathlib.Core.Bool.{Bool, true, false}
 use borrow.Author.Tests.{le-leb, lt-leb, leb-true, leb-false}
 use Rattle.table.specs.declared.rows.Row.{Row}
-use Rattle.table.specs.Rows.{row, width, words, capacity, room, noRoom, putRow, rowAt, Filled}
+use Rattle.table.specs.Rows.{row, width, words, capacity, room, noRoom, rowAt}
+use Rattle.table.specs.Code.Rows.{putRow, Filled}
 
 pub length-words : (rs : List Row) → length (words rs) ≡ width * length rs
 unfolding words

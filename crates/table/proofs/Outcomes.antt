@@ -13,8 +13,10 @@ use Rattle.table.specs.declared.out.Refusal.{Refusal}
 use Rattle.table.specs.declared.out.Refusal.the-variants.{NoRoom}
 use Rattle.table.specs.declared.out.Out.{Out}
 use Rattle.table.specs.declared.out.Out.the-variants.{Read, Short, Refused}
-use Rattle.table.specs.Rows.{row, room, noRoom, putRow, Filled}
-use Rattle.table.specs.Outcome.{Outcome, read, short, refused, roomFor, prepend, closed, andThen, orEndIf, answer, rowsOf, Done}
+use Rattle.table.specs.Rows.{row, room, noRoom}
+use Rattle.table.specs.Code.Rows.{putRow, Filled}
+use Rattle.table.specs.Outcome.{Outcome, read, short, refused, roomFor, prepend, closed, andThen, orEndIf, rowsOf}
+use Rattle.table.specs.Code.Outcome.{answer, Done}
 use Rattle.table.proofs.Filling.{filled-none, filled-then, filled-kept, filled-below, filled-row, full-none, full-more, full-fits, room-used}
 
 -- ---- what makes an answer right
@@ -103,6 +105,13 @@ module _ (rest : Cursor → ℕ → Outcome) where
   unfolding orEndIf
   end-refused true e = rw e
   end-refused false e = rw e
+
+-- nothing follows
+pub then-nil : (o : Outcome) → andThen o (λ d used. read d []) ≡ o
+unfolding andThen prepend
+then-nil (read c rs) = ap (read c) (append-nil rs)
+then-nil (short x) = refl
+then-nil (refused k) = refl
 
 -- ---- room for a row
 

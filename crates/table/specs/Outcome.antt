@@ -1,6 +1,5 @@
 -- What reading a value comes to, and how outcomes are put together.
-use Prim.Native.Nat.{ℕ, zero, suc, _+_}
-use mathlib.Core.Path.{_≡_}
+use Prim.Native.Nat.{ℕ, zero, suc}
 use mathlib.Core.Bool.{Bool, true, false}
 use mathlib.Core.List.{List, [], _∷_, _++_}
 use lib.ListN.{length}
@@ -10,9 +9,7 @@ use Rattle.wire.specs.Place.{broughtBack}
 use Rattle.table.specs.declared.rows.Row.{Row}
 use Rattle.table.specs.declared.out.Refusal.{Refusal}
 use Rattle.table.specs.declared.out.Refusal.the-variants.{InvalidData, InvalidType, Unsupported, TooDeep, NoRoom, NoDiscriminator}
-use Rattle.table.specs.declared.out.Out.{Out}
-use Rattle.table.specs.declared.out.Out.the-variants.{Read, Short, Refused}
-use Rattle.table.specs.Rows.{row, Filled}
+use Rattle.table.specs.Rows.{row}
 
 -- read: the place after it, and its rows; short: too few bytes (1); refused: any other number
 pub data Outcome : Type 0 where
@@ -36,7 +33,7 @@ numberOf (refused k) = refusalNumber k
 
 -- ---- how outcomes are put together
 
--- "13 NoRoom: the next row has no place"
+-- 13, "NoRoom: the next row has no place"
 unfoldable pub roomFor : ℕ → Outcome → Outcome
 roomFor zero o = refused NoRoom
 roomFor (suc k) o = o
@@ -53,7 +50,8 @@ andThen (read c rs) rest = prepend rs (rest c (length rs))
 andThen (short x) rest = short x
 andThen (refused k) rest = refused k
 
--- the same, but where the flag says so a value with too few bytes ends the run as read, and keeps no row
+-- the same, but where the flag says so a value with too few bytes ends the run as read: "A member whose reading fails keeps no row.", "Refusals keep the
+-- position reached."
 unfoldable pub orEndIf : Bool → Outcome → (Cursor → ℕ → Outcome) → Outcome
 orEndIf flag (read c rs) rest = prepend rs (rest c (length rs))
 orEndIf true (short x) rest = read (x .at) []
@@ -72,20 +70,10 @@ backTo c (read d rs) = read c rs
 backTo c (short x) = short (broughtBack x c)
 backTo c (refused k) = refused k
 
--- ---- what the code answers for an outcome, and what it leaves in the table
-
--- after n rows
-unfoldable pub answer : ℕ → Outcome → Out
-answer n (read c rs) = Read c (n + length rs)
-answer n (short x) = Short x
-answer n (refused k) = Refused k
+-- ---- the rows that an outcome leaves
 
 -- "A member whose reading fails keeps no row."
 unfoldable pub rowsOf : Outcome → List Row
 rowsOf (read c rs) = rs
 rowsOf (short x) = []
 rowsOf (refused k) = []
-
-pub record Done (o : Outcome) (n : ℕ) (before after : List ℕ) (r : Out) : Type 0 where
-  pub answered : r ≡ answer n o
-  pub table : Filled before after n (rowsOf o)

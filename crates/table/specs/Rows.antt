@@ -1,10 +1,9 @@
 -- Value rows in the lent table.
 use Prim.Native.Nat.{ℕ, _+_, _-_, _*_, _/_}
-use mathlib.Core.Path.{_≡_}
 use mathlib.Core.Bool.{Bool}
-use mathlib.Core.List.{List, [], _∷_, _++_}
+use mathlib.Core.List.{List, [], _∷_}
 use lib.Dec.{leb}
-use lib.ListN.{length, take, drop, getD, replicate}
+use lib.ListN.{length, getD}
 use Rattle.ground.specs.Choice.{pick}
 use Rattle.table.specs.declared.rows.Row.{Row}
 
@@ -33,20 +32,6 @@ room t n = capacity t - n
 unfoldable pub noRoom : List ℕ → ℕ → Bool
 noRoom t n = leb (capacity t) n
 
--- the table with a row at n
-unfoldable pub putRow : List ℕ → ℕ → Row → List ℕ
-putRow t n r = take (width * n) t ++ (words (r ∷ []) ++ drop (width * n + width) t)
-
 -- row n as the table holds it; all 0 past the last whole row
 unfoldable pub rowAt : List ℕ → ℕ → Row
 rowAt t n = pick (noRoom t n) (row 0 0 0 0) (row (getD t (width * n) 0) (getD t (width * n + 1) 0) (getD t (width * n + 2) 0) (getD t (width * n + 3) 0))
-
--- the first i words, and zeros after them
-abbrev pub clearedFrom : ℕ → List ℕ → List ℕ
-clearedFrom i t = take i t ++ replicate (length t - i) 0
-
--- from the one table to the other: as long, the first n rows kept, and these rows after them
-pub record Filled (before after : List ℕ) (n : ℕ) (rs : List Row) : Type 0 where
-  pub long : length after ≡ length before
-  pub kept : take (width * n) after ≡ take (width * n) before
-  pub rows : take (width * length rs) (drop (width * n) after) ≡ words rs

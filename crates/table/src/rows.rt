@@ -2,7 +2,8 @@
 ghost use mathlib.Core.Path.{_≡_};
 ghost use Prim.Native.Nat.{_+_, _*_, _≤_};
 ghost use lib.ListN.{length};
-ghost use Rattle.table.specs.Rows.{width, noRoom, putRow, rowAt, clearedFrom};
+ghost use Rattle.table.specs.Rows.{width, noRoom, rowAt};
+ghost use Rattle.table.specs.Code.Rows.{putRow, clearedFrom};
 
 pub struct Row {
     pub kind: u64,

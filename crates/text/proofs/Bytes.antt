@@ -12,7 +12,7 @@ use borrow.Author.Count.{below-more}
 use Rattle.ground.specs.Choice.{Range, _‥_}
 use Rattle.ground.proofs.Tests.{inside, below, above}
 use Rattle.text.specs.Unicode.{follow, table37, restGood}
-use Rattle.text.specs.Step.{wantOf, tails, wantsOf, wants, followOf, after, Passed}
+use Rattle.text.specs.Code.Step.{wantOf, tails, wantsOf, wants, followOf, after, Passed}
 use Rattle.text.specs.declared.utf8.Want.{Want}
 use Rattle.text.specs.declared.utf8.Step.{Step}
 use Rattle.text.specs.declared.utf8.Step.the-variants.{Next, Bad}
@@ -83,7 +83,7 @@ past-ascii (suc n) (x ∷ xs) top f h =
 module _ (s : List ℕ) (at i : ℕ) (p : Passed s [] at i) where
   pub block-passed : (n k top : ℕ) → ((j : ℕ) → j < length (take k (drop i s)) → getD (take k (drop i s)) j 0 ≤ top) → i + n ≤ length s → k ≡ n → top < 0x80 → Passed s [] at (i + n)
   block-passed n k top f l e h = record {
-    onward = omega (arith, p .onward);
+    beyond = omega (arith, p .beyond);
     inside = l;
     same = rw (← drop-drop n i s) (past-ascii n (drop i s) top (rw e at f) h) ∙ p .same;
   }
@@ -91,13 +91,13 @@ module _ (s : List ℕ) (at i : ℕ) (p : Passed s [] at i) where
   pub byte-passed : i < length s → getD s i 0 < 0x80 → Passed s [] at (i + 1)
   unfolding restGood wantsOf
   byte-passed l h = record {
-    onward = omega (arith, p .onward);
+    beyond = omega (arith, p .beyond);
     inside = omega arith;
     same = turn-next s i (wantOf 0 0 0) (Next (wantOf 0 0 0)) l (λ xs. begun (Next (wantOf 0 0 0)) (getD s i 0) 0 (0 ‥ 0) xs refl (line1 (getD s i 0) (Next (wantOf 0 0 0)) refl h)) (wantOf 0 0 0) refl ∙ p .same;
   }
 
 pub stays : (s : List ℕ) (rs : List Range) (at : ℕ) → at ≤ length s → Passed s rs at at
-stays s rs at h = record { onward = omega arith; inside = h; same = refl }
+stays s rs at h = record { beyond = omega arith; inside = h; same = refl }
 
 pub none-wanted : (s : List ℕ) (n : ℕ) (g : Range) (at r : ℕ) → n ≡ 0 → Passed s [] at r → Passed s (wantsOf n g) at r
 unfolding wantsOf

@@ -22,7 +22,7 @@ use Rattle.wire.specs.declared.number.Number.the-variants as number
 use Rattle.wire.proofs.Moves.{seek-at, seek-inv}
 use Rattle.wire.proofs.Numbers.{read-inv, read-exact}
 use Rattle.text.specs.Unicode.{utf8, utf16, restGood}
-use Rattle.text.specs.Text.{part, judged, bytesHere, stringType, Units, short, units, unitThen, readUnits, onUnits, unitsHere, wideHere, wstringType}
+use Rattle.text.specs.Text.{part, textIf, bytesHere, stringType, Units, short, units, unitThen, readUnits, onUnits, unitsHere, wideHere, wstringType}
 use Rattle.text.specs.declared.string.Text.the-variants as text
 
 -- n pieces of this size from `start`, all in the data; the reading moved past them and kept its origin
@@ -38,23 +38,23 @@ short≢got x start n d e = let z : _≡_ {A = ℕ} 0 1 = cc in omega arith
 bad≢got : (start n : ℕ) (d : Cursor) → text.Bad ≡ text.Got start n d → ⊥
 bad≢got start n d e = let z : _≡_ {A = ℕ} 0 1 = cc in omega arith
 
--- what was judged well is as it was judged
-judged-inv : (good : Bool) (a m start n : ℕ) (c d : Cursor) → judged good a m c ≡ text.Got start n d → (good ≡ true) × (a ≡ start) × (m ≡ n) × (c ≡ d)
-judged-inv true a m start n c d e = (refl, (cc), (cc), (cc))
-judged-inv false a m start n c d e = absurd (bad≢got start n d e)
+-- a text that came of it is as it was given
+text-if-inv : (good : Bool) (a m start n : ℕ) (c d : Cursor) → textIf good a m c ≡ text.Got start n d → (good ≡ true) × (a ≡ start) × (m ≡ n) × (c ≡ d)
+text-if-inv true a m start n c d e = (refl, (cc), (cc), (cc))
+text-if-inv false a m start n c d e = absurd (bad≢got start n d e)
 
 -- STRING8: n bytes, well-formed, and the closing byte after them
 module _ (s : List ℕ) (start n : ℕ) (d : Cursor) where
-  closing-inv : (a m : ℕ) (c : Cursor) (r : Place) → seekTo s c 1 ≡ r → afterMove text.Short r (λ x. judged (utf8 (part s a m)) a m x) ≡ text.Got start n d
+  closing-inv : (a m : ℕ) (c : Cursor) (r : Place) → seekTo s c 1 ≡ r → afterMove text.Short r (λ x. textIf (utf8 (part s a m)) a m x) ≡ text.Got start n d
       → (utf8 (part s a m) ≡ true) × (a ≡ start) × (m ≡ n) × (c .pos + 1 ≤ length s) × (moved c 1 ≡ d)
   unfolding afterMove
   closing-inv a m c (place.Short x) f e = absurd (short≢got x start n d e)
   closing-inv a m c (place.At x) f e =
-      let j = judged-inv (utf8 (part s a m)) a m start n x d e in
+      let j = text-if-inv (utf8 (part s a m)) a m start n x d e in
       let k = seek-inv s c 1 x f in
       (j .0, j .1, j .2, k .0, k .1 ∙ j .3)
 
-  block-inv : (a m : ℕ) (c : Cursor) (r : Place) → seekTo s c m ≡ r → afterMove text.Short r (λ x. afterMove text.Short (seekTo s x 1) (λ y. judged (utf8 (part s a m)) a m y)) ≡ text.Got start n d
+  block-inv : (a m : ℕ) (c : Cursor) (r : Place) → seekTo s c m ≡ r → afterMove text.Short r (λ x. afterMove text.Short (seekTo s x 1) (λ y. textIf (utf8 (part s a m)) a m y)) ≡ text.Got start n d
       → (utf8 (part s a m) ≡ true) × (a ≡ start) × (m ≡ n) × (c .pos + m + 1 ≤ length s) × (moved (moved c m) 1 ≡ d)
   unfolding afterMove
   block-inv a m c (place.Short x) f e = absurd (short≢got x start n d e)
@@ -186,7 +186,7 @@ module _ (s : List ℕ) (set : Settings) (start n : ℕ) (d : Cursor) where
   unfolding onUnits
   on-units-inv m x (short y) f e = absurd (short≢got y start n d e)
   on-units-inv m x (units us y) f e =
-      let j = judged-inv (utf16 us) (x .pos) m start n y d e in
+      let j = text-if-inv (utf16 us) (x .pos) m start n y d e in
       record { starts = j .1; us = us; read = rw (j .2, j .3) at f; good = j .0 }
 
   long-inv : (empty odd : Bool) (m : ℕ) (x : Cursor) → pick empty (text.Got (x .pos) 0 x) (pick odd text.Bad (unitsHere s set x m)) ≡ text.Got start n d → Accepted s set x start n d

@@ -7,7 +7,8 @@ use native.Mathlib.Omega.{arith}
 use lib.ListN.{length}
 use borrow.Author.Tests.{ne-eqb}
 use Rattle.wire.specs.Place.{seekTo, afterMove}
-use Rattle.wire.specs.Number.{afterNumber, ReadIs}
+use Rattle.wire.specs.Number.{afterNumber}
+use Rattle.wire.specs.Code.Reads.{ReadIs}
 use Rattle.wire.specs.declared.settings.Settings.{Settings}
 use Rattle.wire.specs.declared.cursor.Cursor.{Cursor}
 use Rattle.wire.specs.declared.cursor.Shortage.{Shortage}
@@ -17,8 +18,8 @@ use Rattle.wire.specs.declared.number.Number.{Number}
 use Rattle.wire.specs.declared.number.Number.the-variants as number
 use Rattle.wire.proofs.Moves.{seek-inv}
 use Rattle.text.specs.Unicode.{utf8, restGood}
-use Rattle.text.specs.Step.{goodFrom}
-use Rattle.text.specs.Text.{part, judged, bytesHere, stringType, Units, short, units, unitThen, readUnits, onUnits, unitsHere, wideHere, wstringType}
+use Rattle.text.specs.Code.Step.{goodFrom}
+use Rattle.text.specs.Text.{part, textIf, bytesHere, stringType, Units, short, units, unitThen, readUnits, onUnits, unitsHere, wideHere, wstringType}
 use Rattle.text.specs.declared.string.Text.{Text}
 use Rattle.text.specs.declared.string.Text.the-variants as text
 use Rattle.text.specs.declared.utf16.State.{State}
@@ -69,7 +70,7 @@ pub ruleset string-laws = (string-short, string-got, string-empty)
 -- what the units to come give in this state
 unfoldable pub resumed : State → ℕ → ℕ → Units → Text
 resumed st start n (short x) = text.Short x
-resumed st start n (units us c) = judged (goodFrom st us) start n c
+resumed st start n (units us c) = textIf (goodFrom st us) start n c
 
 module _ (s : List ℕ) (set : Settings) (c : Cursor) (n : ℕ) where
   started : (r : Units) → resumed state.Whole (c .pos) n r ≡ onUnits (c .pos) n r
@@ -85,7 +86,7 @@ module _ (s : List ℕ) (set : Settings) (c : Cursor) (n : ℕ) where
 taken : (st next : State) (start n u : ℕ) (r : Units) → ((us : List ℕ) → goodFrom next us ≡ goodFrom st (u ∷ us)) → resumed next start n r ≡ resumed st start n (unitThen u r)
 unfolding resumed unitThen
 taken st next start n u (short x) f = refl
-taken st next start n u (units us d) f = ap (λ (t : Bool). judged t start n d) (f us)
+taken st next start n u (units us d) f = ap (λ (t : Bool). textIf t start n d) (f us)
 
 pub unit-fits : (s : List ℕ) (set : Settings) (c : Cursor) (r : Number) → ReadIs s set c 2 r → (u : ℕ) (d : Cursor) → r ≡ number.Got u d → u < 2 ^ 16
 unit-fits s set c r read u d e = rw e at (read .small)

@@ -8,7 +8,7 @@ use Rattle.ground.specs.Choice.{both, Range, _‥_}
 use Rattle.ground.proofs.Tests.{both-left, both-right}
 use Rattle.ground.proofs.Between.{passes, between}
 use Rattle.text.specs.Unicode.{Follow, nothing, ranges, follow, table37}
-use Rattle.text.specs.Step.{wantOf, tails, wantsOf, followOf}
+use Rattle.text.specs.Code.Step.{wantOf, tails, wantsOf, followOf}
 use Rattle.text.specs.declared.utf8.Step.{Step}
 use Rattle.text.specs.declared.utf8.Step.the-variants.{Next}
 

@@ -6,7 +6,7 @@ use mathlib.Core.List.{List, _∷_}
 use native.Mathlib.Omega.{arith}
 use Rattle.ground.proofs.Tests.{inside, below, above}
 use Rattle.text.specs.Unicode.{table16, follow, restGood}
-use Rattle.text.specs.Step.{goodFrom}
+use Rattle.text.specs.Code.Step.{goodFrom}
 use Rattle.text.specs.declared.utf16.State.the-variants.{Whole, Half}
 
 module _ (u : ℕ) (us : List ℕ) where

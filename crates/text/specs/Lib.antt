@@ -1,3 +1,3 @@
 pub mod Unicode
-pub mod Step
 pub mod Text
+pub mod Code

@@ -18,15 +18,15 @@ use Rattle.text.specs.declared.string.Text.the-variants as text
 abbrev pub part : List ℕ → ℕ → ℕ → List ℕ
 part s a n = take n (drop a s)
 
--- what is well-formed is a text, with its start, its size and the cursor past it; what is not is 2
-abbrev pub judged : Bool → ℕ → ℕ → Cursor → Text
-judged good start n c = pick good (text.Got start n c) text.Bad
+-- a text, with its start, its size and the cursor past it, if it is well-formed; else it is 2
+abbrev pub textIf : Bool → ℕ → ℕ → Cursor → Text
+textIf good start n c = pick good (text.Got start n c) text.Bad
 
 -- n bytes where the cursor stands, as one block, "one more byte of any value, then UTF-8"
 unfoldable pub bytesHere : List ℕ → Cursor → ℕ → Text
 bytesHere s c n =
     afterMove text.Short (seekTo s c n) (λ d.
-    afterMove text.Short (seekTo s d 1) (λ e. judged (utf8 (part s (c .pos) n)) (c .pos) n e))
+    afterMove text.Short (seekTo s d 1) (λ e. textIf (utf8 (part s (c .pos) n)) (c .pos) n e))
 
 -- "STRING8: length n, n-1 bytes (0 for n = 0), one more byte of any value, then UTF-8."
 unfoldable pub stringType : List ℕ → Settings → Cursor → Text
@@ -50,7 +50,7 @@ readUnits s set (suc n) c = afterNumber short (readNumber s set c 2) (λ u d. un
 -- ".., then UTF-16 pairs"
 unfoldable pub onUnits : ℕ → ℕ → Units → Text
 onUnits start n (short x) = text.Short x
-onUnits start n (units us c) = judged (utf16 us) start n c
+onUnits start n (units us c) = textIf (utf16 us) start n c
 
 -- n units where the cursor stands
 unfoldable pub unitsHere : List ℕ → Settings → Cursor → ℕ → Text

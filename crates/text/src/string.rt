@@ -82,7 +82,7 @@ fn units_here(s: &[u8], set: Settings, at: Cursor, n: usize) -> Text
         match unit {
             Number::Short(x) => return Text::Short(x),
             Number::Got(u, d) => {
-                state = utf16::take(state, u as u16);
+                state = utf16::next_unit(state, u as u16);
                 c = d;
                 left -= 1;
             }

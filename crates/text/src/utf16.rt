@@ -2,7 +2,7 @@
 ghost use mathlib.Core.Path.{_≡_};
 ghost use mathlib.Core.List.{List, _∷_};
 ghost use Prim.Native.Nat.{ℕ};
-ghost use Rattle.text.specs.Step.{goodFrom};
+ghost use Rattle.text.specs.Code.Step.{goodFrom};
 
 // Where a check stands after some units: between characters, inside a pair, or past a fault.
 pub enum State {
@@ -12,7 +12,7 @@ pub enum State {
 }
 
 // A unit that begins a character.
-fn first(u: u16) -> State
+fn first_unit(u: u16) -> State
     ensures { λ r. ⌜ ((us : List ℕ) → goodFrom r us ≡ goodFrom State.Whole (u ∷ us)) ⌝ }
 {
     match u {
@@ -24,7 +24,7 @@ fn first(u: u16) -> State
 }
 
 // The second unit of a pair.
-fn second(u: u16) -> State
+fn second_unit(u: u16) -> State
     ensures { λ r. ⌜ ((us : List ℕ) → goodFrom r us ≡ goodFrom State.Half (u ∷ us)) ⌝ }
 {
     match u {
@@ -33,13 +33,13 @@ fn second(u: u16) -> State
     }
 }
 
-// One unit more.
-pub fn take(state: State, u: u16) -> State
+// Where the check stands after one unit more.
+pub fn next_unit(state: State, u: u16) -> State
     ensures { λ r. ⌜ ((us : List ℕ) → goodFrom r us ≡ goodFrom state (u ∷ us)) ⌝ }
 {
     match state {
-        State::Whole => first(u),
-        State::Half => second(u),
+        State::Whole => first_unit(u),
+        State::Half => second_unit(u),
         State::Bad => State::Bad,
     }
 }

@@ -4,7 +4,7 @@ ghost use mathlib.Core.List.{List, [], _∷_};
 ghost use Prim.Native.Nat.{ℕ, _<_, _≤_};
 ghost use lib.ListN.{length, getD};
 ghost use Rattle.text.specs.Unicode.{table37, follow, restGood, utf8};
-ghost use Rattle.text.specs.Step.{wantOf, wants, followOf, after, Passed};
+ghost use Rattle.text.specs.Code.Step.{wantOf, wants, followOf, after, Passed};
 
 // What has to come: `left` bytes, of which the next is from `lo` to `hi` and any other from 80 to BF.
 pub struct Want {
@@ -25,7 +25,7 @@ fn then(left: u8, lo: u8, hi: u8) -> Step
 }
 
 // What has to follow a first byte: a line for each line of the table.
-fn first(x: u8) -> Step
+fn first_byte(x: u8) -> Step
     ensures { λ r. ⌜ followOf r ≡ follow table37 x ⌝ }
 {
     match x {
@@ -42,15 +42,15 @@ fn first(x: u8) -> Step
     }
 }
 
-// One byte more.
-fn take(want: Want, x: u8) -> Step
+// What has to come after one byte more.
+fn next_byte(want: Want, x: u8) -> Step
     ensures { λ r. ⌜ ((xs : List ℕ) → after r xs ≡ restGood table37 (x ∷ xs) (wants want)) ⌝ }
 {
     let left = want.left;
     let lo = want.lo;
     let hi = want.hi;
     if left == 0 {
-        return first(x);
+        return first_byte(x);
     }
     if x < lo {
         return Step::Bad;
@@ -141,7 +141,7 @@ pub fn is_utf8(s: &[u8]) -> bool
         if s.len() <= at {
             return want.left == 0;
         }
-        let Step::Next(next) = take(want, s[at]) else {
+        let Step::Next(next) = next_byte(want, s[at]) else {
             return false;
         };
         want = next;

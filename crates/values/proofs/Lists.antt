@@ -1,32 +1,38 @@
 -- Laws of lists of values that open nothing: the loop's start, turn and ends, and the list around it. Assumes nothing.
 use Prim.Native.Nat.{ℕ, suc, _+_, _-_, _^_, _≤_, _<_}
 use mathlib.Core.Path.{_≡_, refl, sym, ap, _∙_}
-use mathlib.Core.Bool.{Bool, true, false}
+use mathlib.Core.Bool.{Bool, true, false, _||_, or-false}
 use mathlib.Core.List.{List, [], _∷_}
 use native.Mathlib.Nat.{sub-zero}
 use native.Mathlib.Omega.{arith}
 use mir.Syntax.{w64}
 use mir.Val.{Fits}
 use lib.ListN.{length}
+use lib.Dec.{eqb}
+use borrow.Author.Tests.{ne-eqb}
+use Rattle.ground.specs.Choice.{pick, among}
+use Rattle.ground.proofs.Tests.{apart, inside}
 use Rattle.wire.specs.declared.cursor.Cursor.{Cursor}
 use Rattle.wire.specs.declared.cursor.Shortage.{Shortage}
 use Rattle.wire.specs.declared.cursor.Place.{Place}
 use Rattle.wire.specs.declared.cursor.Place.the-variants as place
 use Rattle.wire.specs.declared.settings.Settings.{Settings}
 use Rattle.wire.specs.Place.{cursorAt, seekTo}
-use Rattle.kinds.specs.declared.Entry.{Entry}
-use Rattle.kinds.specs.Kinds.{storedOf, entryOf}
+use Rattle.kinds.specs.Kinds.{storedOf, isPrimitive}
+use Rattle.kinds.proofs.Table.{sequence-stored}
 use Rattle.table.specs.declared.out.Refusal.{Refusal}
 use Rattle.table.specs.declared.out.Refusal.the-variants.{NoRoom}
 use Rattle.table.specs.declared.out.Out.{Out}
 use Rattle.table.specs.declared.out.Out.the-variants.{Read, Short, Refused}
-use Rattle.table.specs.Rows.{row, room, noRoom, putRow, Filled}
-use Rattle.table.specs.Outcome.{Outcome, read, prepend, andThen, Done}
+use Rattle.table.specs.Rows.{row, room, noRoom}
+use Rattle.table.specs.Code.Rows.{putRow, Filled}
+use Rattle.table.specs.Outcome.{Outcome, read, prepend, andThen}
+use Rattle.table.specs.Code.Outcome.{Done}
 use Rattle.table.proofs.Filling.{filled-fits, filled-none, filled-one, full-fits, room-used}
 use Rattle.table.proofs.Outcomes.{is-short, is-refused, is-same, is-after, no-room, some-room, was-read, was-short, was-refused, then-read, then-short, then-refused, Sofar, sofar-start, sofar-more, sofar-read, sofar-short, sofar-refused}
 use Rattle.values.specs.Scalar.{scalarOf}
-use Rattle.values.specs.List.{elementsFrom, listOf, onBlock, blockOf}
-use Rattle.values.specs.Quick.{Quickly}
+use Rattle.values.specs.List.{elementsFrom, listOf, onBlock, blockOf, primitivesOf, bitmasksOrTextsOf}
+use Rattle.values.specs.Code.Quick.{Quickly}
 use Rattle.values.proofs.Quickly.{quick-done, quick-none, quick-next}
 
 module _ (s : List ℕ) (set : Settings) (kind count : ℕ) where
@@ -72,8 +78,8 @@ module _ (s : List ℕ) (set : Settings) (kind count : ℕ) where
 
     -- an element that the quick way took, or left alone
     module _ (v : List ℕ) (r : ℕ) (q : Quickly (scalarOf s set kind i c (room u m)) 1 m (c .origin) u v r) where
-      pub elements-quick : i < count → 0 < r → ElementsSofar whole n t v (i + 1) (cursorAt r (c .origin)) (m + 1)
-      elements-quick l h = elements-turn l v (Read (cursorAt r (c .origin)) (m + 1)) (quick-done 1 r h q) (cursorAt r (c .origin)) (m + 1) refl
+      pub elements-quick : i < count → 0 < r → (d : Cursor) → d ≡ cursorAt r (c .origin) → ElementsSofar whole n t v (i + 1) d (m + 1)
+      elements-quick l h d e = rw e (elements-turn l v (Read (cursorAt r (c .origin)) (m + 1)) (quick-done 1 r h q) (cursorAt r (c .origin)) (m + 1) refl)
 
       pub elements-left : r ≤ 0 → ElementsSofar whole n t v i c m
       elements-left h = rw (quick-none _ 1 m (c .origin) u v r h q) inv
@@ -90,11 +96,11 @@ module _ (s : List ℕ) (set : Settings) (kind count : ℕ) where
     unfolding listOf
     list-full e = is-refused (no-room t n _ f is e) (filled-none t n)
 
-    pub list-rows : f ≡ false → (x : Entry) → x ≡ entryOf kind → (u : List ℕ) → u ≡ putRow t n (row 25 id (x .stored) count) → (v : List ℕ) (r : Out)
+    pub list-rows : f ≡ false → (k x : ℕ) → k ≡ storedOf 25 → x ≡ storedOf kind → (u : List ℕ) → u ≡ putRow t n (row k id x count) → (v : List ℕ) (r : Out)
         → Done (elementsFrom s set kind count 0 c (room u (n + 1))) (n + 1) u v r → Done (listOf s set kind id count c (room t n)) n t v r
     unfolding listOf
-    list-rows e x k u p v r h =
-        let q : u ≡ putRow t n (row 25 id (storedOf kind) count) = rw k at p in
+    list-rows e k x list stored u p v r h =
+        let q : u ≡ putRow t n (row 25 id (storedOf kind) count) = rw (list ∙ sequence-stored, stored) at p in
         let w : Filled t u n (row 25 id (storedOf kind) count ∷ []) = rw q (filled-one t n (row 25 id (storedOf kind) count) (full-fits t n f is e)) in
         is-same (some-room t n _ f is e ∙ ap (λ (y : ℕ). prepend (row 25 id (storedOf kind) count ∷ []) (elementsFrom s set kind count 0 c y)) (room-used t u n 1 (w .long))) (is-after w h)
 
@@ -107,3 +113,50 @@ module _ (s : List ℕ) (set : Settings) (kind count : ℕ) where
     pub block-at : (d : Cursor) → p ≡ place.At d → (u : List ℕ) (r : Out) → Done (listOf s set kind id count c (room t n)) n t u r → Done (blockOf s set kind id count c (room t n)) n t u r
     unfolding blockOf onBlock
     block-at d e u r h = is-same (rw (sym is ∙ e)) h
+
+-- a list of primitives: BYTE and UINT8 by their block, any other by its elements alone; and a list of bitmasks or texts
+module _ (s : List ℕ) (set : Settings) (kind id count : ℕ) (c : Cursor) (room : ℕ) where
+  pub primitives-block : among (2 ∷ 13 ∷ []) kind ≡ true → primitivesOf s set kind id count c room ≡ blockOf s set kind id count c room
+  unfolding primitivesOf
+  primitives-block e = rw e
+
+  pub primitives-list : among (2 ∷ 13 ∷ []) kind ≡ false → primitivesOf s set kind id count c room ≡ listOf s set kind id count c room
+  unfolding primitivesOf
+  primitives-list e = rw e
+
+  pub others-list : bitmasksOrTextsOf s set kind id count c room ≡ listOf s set kind id count c room
+  unfolding bitmasksOrTextsOf
+  others-list = refl
+
+-- bytes are primitives
+bytes-primitive : (kind : ℕ) → isPrimitive kind ≡ false → among (2 ∷ 13 ∷ []) kind ≡ false
+unfolding isPrimitive
+bytes-primitive kind h =
+    let no-2 : kind ≡ 2 → ⊥ = λ e. apart (sym h ∙ inside 1 15 kind (omega (arith, e)) (omega (arith, e))) in
+    let no-13 : kind ≡ 13 → ⊥ = λ e. apart (sym h ∙ inside 1 15 kind (omega (arith, e)) (omega (arith, e))) in
+    rw (ne-eqb kind 2 no-2, ne-eqb kind 13 no-13)
+
+-- a list by its elements' kind, and by the kind that they are read as, which is a primitive's own: what the two definitions come to
+pub list-by-kind : (s : List ℕ) (set : Settings) (kind read-as id count : ℕ) (c : Cursor) (room : ℕ) → (isPrimitive kind ≡ true → read-as ≡ kind)
+    → pick (isPrimitive kind) (primitivesOf s set kind id count c room) (bitmasksOrTextsOf s set read-as id count c room) ≡ pick (among (2 ∷ 13 ∷ []) kind) (blockOf s set kind id count c room) (listOf s set read-as id count c room)
+unfolding primitivesOf bitmasksOrTextsOf
+list-by-kind s set kind read-as id count c room own = go (isPrimitive kind) refl
+  where
+    go : (p : Bool) → isPrimitive kind ≡ p
+        → pick p (primitivesOf s set kind id count c room) (bitmasksOrTextsOf s set read-as id count c room) ≡ pick (among (2 ∷ 13 ∷ []) kind) (blockOf s set kind id count c room) (listOf s set read-as id count c room)
+    go true e = rw (own e)
+    go false e = rw (bytes-primitive kind e)
+
+-- the code's test
+module _ (s : List ℕ) (set : Settings) (kind id count : ℕ) (c : Cursor) (t : List ℕ) (n : ℕ) (u : List ℕ) (r : Out) where
+  bytes : (eqb kind 2 || eqb kind 13) ≡ among (2 ∷ 13 ∷ []) kind
+  bytes = simp or-false
+
+  pub primitives-bytes : (eqb kind 2 || eqb kind 13) ≡ true → Done (blockOf s set kind id count c (room t n)) n t u r → Done (primitivesOf s set kind id count c (room t n)) n t u r
+  primitives-bytes e h = is-same (primitives-block s set kind id count c (room t n) (sym bytes ∙ e)) h
+
+  pub primitives-other : (eqb kind 2 || eqb kind 13) ≡ false → Done (listOf s set kind id count c (room t n)) n t u r → Done (primitivesOf s set kind id count c (room t n)) n t u r
+  primitives-other e h = is-same (primitives-list s set kind id count c (room t n) (sym bytes ∙ e)) h
+
+  pub others : Done (listOf s set kind id count c (room t n)) n t u r → Done (bitmasksOrTextsOf s set kind id count c (room t n)) n t u r
+  others h = is-same (others-list s set kind id count c (room t n)) h

@@ -26,16 +26,16 @@ use Rattle.wire.specs.Place.{cursorAt, moved, alignmentOf, paddingOf, alignTo}
 use Rattle.wire.specs.Number.{numberAt, readNumber}
 use Rattle.wire.proofs.Moves.{still-aligned, padded-aligned, seek-inv, align-inv}
 use Rattle.wire.proofs.Numbers.{read-past, read-aligned}
-use Rattle.kinds.specs.declared.Entry.{Entry}
-use Rattle.kinds.specs.Kinds.{alignOf, storedOf, entryOf}
+use Rattle.kinds.specs.Kinds.{alignOf, storedOf}
 use Rattle.table.specs.declared.rows.Row.{Row}
-use Rattle.table.specs.Rows.{row, width, capacity, room, putRow, Filled}
+use Rattle.table.specs.Rows.{row, width, capacity, room}
+use Rattle.table.specs.Code.Rows.{putRow, Filled}
 use Rattle.table.proofs.Filling.{filled-none, filled-one, filled-then}
 use Rattle.table.specs.Outcome.{Outcome, read, roomFor, prepend, andThen}
 use Rattle.table.proofs.Outcomes.{is-read, then-read}
 use Rattle.values.specs.Scalar.{wordOf, scalarOf, onNumber, rowed}
 use Rattle.values.specs.List.{elementsFrom}
-use Rattle.values.specs.Quick.{isNumber, Quickly, rowsFrom, WhereThere}
+use Rattle.values.specs.Code.Quick.{isNumber, Quickly, rowsFrom, WhereThere}
 use Rattle.values.proofs.Quickly.{quick-is, number-is, wide-some, wide-most, ranged}
 
 -- what is left of a list, one number on
@@ -134,50 +134,41 @@ module _ (s t : List ℕ) (w count p n : ℕ) where
   is-there e r is cap wide some inside place bytes rows (suc x) at =
       (omega (arith, eqb-false count 0 (neither-first (eqb count 0) (ltb 0xFFFFFFFF count) some)), at, omega arith, omega arith)
 
-  pub there-sum : length s < 2 ^ 64 → (e : ℕ) → e ≡ length s → p ≤ e → count * w ≤ e - p → Fits w64 (p + count * w)
-  there-sum k e is inside bytes = omega arith
-
   record There (x : ℕ) : Type 0 where
     some : 0 < count
     at : x ≡ p + count * w
     inside : p + count * w ≤ length s
     place : n + count ≤ capacity t
 
-  told : (x : ℕ) → WhereThere s t w count p n x → 0 < x → There x
+  there-of : (x : ℕ) → WhereThere s t w count p n x → 0 < x → There x
   unfolding WhereThere
-  told zero h l = absurd (omega arith)
-  told (suc x) h l = record { some = h .0; at = h .1; inside = h .2; place = h .3 }
+  there-of zero h l = absurd (omega arith)
+  there-of (suc x) h l = record { some = h .0; at = h .1; inside = h .2; place = h .3 }
 
   module _ (x : ℕ) (h : WhereThere s t w count p n x) (yes : 0 < x) where
     pub there-some : 0 < count
-    there-some = told x h yes .some
+    there-some = there-of x h yes .some
 
     pub there-at : x ≡ p + count * w
-    there-at = told x h yes .at
+    there-at = there-of x h yes .at
 
     pub there-inside : p + count * w ≤ length s
-    there-inside = told x h yes .inside
+    there-inside = there-of x h yes .inside
 
     pub there-place : n + count ≤ capacity t
-    there-place = told x h yes .place
+    there-place = there-of x h yes .place
 
--- what a number's entry says
+-- what the test for a number says
 module _ (kind : ℕ) (b : Bool) (is : b ≡ isNumber kind) (yes : not b ≡ false) where
   pub number-yes : isNumber kind ≡ true
   number-yes = sym is ∙ not-false b yes
 
-  module _ (e : Entry) (entry : e ≡ entryOf kind) where
-    pub entry-wide : e .align ≡ alignOf kind
-    entry-wide = rw entry
+  module _ (w : ℕ) (wide : w ≡ alignOf kind) where
+    pub number-some : 0 < w
+    number-some = wide-some kind number-yes w wide
 
-    pub entry-stored : e .stored ≡ storedOf kind
-    entry-stored = rw entry
-
-    pub entry-some : 0 < e .align
-    entry-some = wide-some kind number-yes (e .align) entry-wide
-
-    pub entry-most : e .align ≤ 8
-    entry-most = wide-most kind number-yes (e .align) entry-wide
+    pub number-most : w ≤ 8
+    number-most = wide-most kind number-yes w wide
 
 -- a number's bytes are whole steps of its alignment
 abbrev steps : Version → ℕ → Bool

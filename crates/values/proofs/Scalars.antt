@@ -19,11 +19,11 @@ use Rattle.wire.specs.declared.number.Float128.{Float128}
 use Rattle.wire.specs.declared.number.Float128.the-variants as float128
 use Rattle.wire.specs.declared.number.Boolean.{Boolean}
 use Rattle.wire.specs.declared.number.Boolean.the-variants as boolean
-use Rattle.wire.specs.Number.{readNumber, readFloat128, readBoolean, ReadIs}
+use Rattle.wire.specs.Number.{readNumber, readFloat128, readBoolean}
+use Rattle.wire.specs.Code.Reads.{ReadIs}
 use Rattle.wire.specs.Signed.{extended}
-use Rattle.kinds.specs.declared.Entry.{Entry}
-use Rattle.kinds.specs.Kinds.{alignOf, entryOf, isPrimitive, isSigned}
-use Rattle.kinds.proofs.Table.{primitive-align}
+use Rattle.kinds.specs.Kinds.{alignOf, storedOf, isPrimitive, isSigned}
+use Rattle.kinds.proofs.Table.{primitive-align, own-stored}
 use Rattle.text.specs.declared.string.Text.{Text}
 use Rattle.text.specs.declared.string.Text.the-variants as text
 use Rattle.text.specs.Text.{stringType, wstringType}
@@ -31,8 +31,9 @@ use Rattle.table.specs.declared.rows.Row.{Row}
 use Rattle.table.specs.declared.out.Refusal.the-variants.{InvalidData, Unsupported, NoRoom}
 use Rattle.table.specs.declared.out.Out.{Out}
 use Rattle.table.specs.declared.out.Out.the-variants.{Read, Short, Refused}
-use Rattle.table.specs.Rows.{row, room, noRoom, putRow}
-use Rattle.table.specs.Outcome.{Done}
+use Rattle.table.specs.Rows.{row, room, noRoom}
+use Rattle.table.specs.Code.Rows.{putRow}
+use Rattle.table.specs.Code.Outcome.{Done}
 use Rattle.table.proofs.Filling.{filled-none, filled-one, full-fits}
 use Rattle.table.proofs.Outcomes.{is-read, is-short, is-refused, no-room, some-room}
 use Rattle.values.specs.Scalar.{rowed, boolWord, onBoolean, onFloat128, wordOf, onNumber, onText, scalarOf, enumOf}
@@ -61,10 +62,10 @@ word-none v e = rw e
 
 module _ (s : List ℕ) (set : Settings) (c : Cursor) (id : ℕ) (t : List ℕ) (n : ℕ) where
   module _ (g : Boolean) (is : g ≡ readBoolean s set c) where
-    pub boolean-row : (v : Bool) (d : Cursor) → g ≡ boolean.Got v d → (w : ℕ) → w ≡ boolWord v → (u : List ℕ) (r : Out) → Done (rowed (room t n) d (row 1 id w 0)) n t u r
+    pub boolean-row : (v : Bool) (d : Cursor) → g ≡ boolean.Got v d → (w : ℕ) → w ≡ boolWord v → (y : ℕ) → y ≡ storedOf 1 → (u : List ℕ) (r : Out) → Done (rowed (room t n) d (row y id w 0)) n t u r
         → Done (onBoolean id (room t n) (readBoolean s set c)) n t u r
     unfolding onBoolean
-    boolean-row v d e w k u r h = rw (← is, e, ← k) h
+    boolean-row v d e w k y stored u r h = rw (← is, e, ← k) (rw (stored ∙ own-stored 1 tt) at h)
 
     pub boolean-bad : g ≡ boolean.Bad → Done (onBoolean id (room t n) (readBoolean s set c)) n t t (Refused InvalidData)
     unfolding onBoolean
@@ -75,10 +76,10 @@ module _ (s : List ℕ) (set : Settings) (c : Cursor) (id : ℕ) (t : List ℕ) 
     boolean-short x e = is-short (rw (← is, e)) (filled-none t n)
 
   module _ (g : Float128) (is : g ≡ readFloat128 s set c) where
-    pub float128-row : (low high : ℕ) (d : Cursor) → g ≡ float128.Got low high d → (u : List ℕ) (r : Out) → Done (rowed (room t n) d (row 11 id low high)) n t u r
+    pub float128-row : (low high : ℕ) (d : Cursor) → g ≡ float128.Got low high d → (y : ℕ) → y ≡ storedOf 11 → (u : List ℕ) (r : Out) → Done (rowed (room t n) d (row y id low high)) n t u r
         → Done (onFloat128 id (room t n) (readFloat128 s set c)) n t u r
     unfolding onFloat128
-    float128-row low high d e u r h = rw (← is, e) h
+    float128-row low high d e y stored u r h = rw (← is, e) (rw (stored ∙ own-stored 11 tt) at h)
 
     pub float128-short : (x : Shortage) → g ≡ float128.Short x → Done (onFloat128 id (room t n) (readFloat128 s set c)) n t t (Short x)
     unfolding onFloat128
@@ -86,15 +87,15 @@ module _ (s : List ℕ) (set : Settings) (c : Cursor) (id : ℕ) (t : List ℕ) 
 
 -- a text
 module _ (id kind : ℕ) (t : List ℕ) (n : ℕ) (g : Text) where
-  pub text-row : (start size : ℕ) (c : Cursor) → g ≡ text.Got start size c → (u : List ℕ) (r : Out) → Done (rowed (room t n) c (row kind id start size)) n t u r → Done (onText kind id (room t n) g) n t u r
+  pub text-row : (start size : ℕ) (c : Cursor) → g ≡ text.Got start size c → (y : ℕ) → y ≡ storedOf kind → (u : List ℕ) (r : Out) → Done (rowed (room t n) c (row y id start size)) n t u r → Done (onText (storedOf kind) id (room t n) g) n t u r
   unfolding onText
-  text-row start size c e u r h = rw e h
+  text-row start size c e y stored u r h = rw e (rw stored at h)
 
-  pub text-bad : g ≡ text.Bad → Done (onText kind id (room t n) g) n t t (Refused InvalidData)
+  pub text-bad : g ≡ text.Bad → Done (onText (storedOf kind) id (room t n) g) n t t (Refused InvalidData)
   unfolding onText
   text-bad e = is-refused (rw e) (filled-none t n)
 
-  pub text-short : (x : Shortage) → g ≡ text.Short x → Done (onText kind id (room t n) g) n t t (Short x)
+  pub text-short : (x : Shortage) → g ≡ text.Short x → Done (onText (storedOf kind) id (room t n) g) n t t (Short x)
   unfolding onText
   text-short x e = is-short (rw e) (filled-none t n)
 
@@ -108,33 +109,30 @@ module _ (kind v : ℕ) (b : Bool) (is : b ≡ isSigned kind) where
   unfolding wordOf
   word-plain h = rw (← is, h)
 
--- a number's width is what its kind's entry says
-module _ (kind : ℕ) (e : Entry) (entry : e ≡ entryOf kind) where
-  pub width-some : 0 < alignOf kind → 0 < e .align
-  width-some h = rw entry h
+-- a number's width and its row's kind are what the table says
+module _ (kind w : ℕ) (wide : w ≡ alignOf kind) where
+  pub width-some : 0 < alignOf kind → 0 < w
+  width-some h = rw wide h
 
-  pub width-most : alignOf kind ≤ 8 → e .align ≤ 8
-  width-most h = rw entry h
+  pub width-most : alignOf kind ≤ 8 → w ≤ 8
+  width-most h = rw wide h
 
-  pub width-is : e .align ≡ alignOf kind
-  width-is = rw entry
-
-  module _ (s : List ℕ) (set : Settings) (c : Cursor) (g : Number) (is : ReadIs s set c (e .align) g) where
-    pub number-below : (v : ℕ) (d : Cursor) → g ≡ number.Got v d → v < 256 ^ e .align
+  module _ (s : List ℕ) (set : Settings) (c : Cursor) (g : Number) (is : ReadIs s set c w g) where
+    pub number-below : (v : ℕ) (d : Cursor) → g ≡ number.Got v d → v < 256 ^ w
     number-below v d f = rw f at (is .small)
 
     module _ (id : ℕ) (t : List ℕ) (n : ℕ) where
-      pub number-row : (v : ℕ) (d : Cursor) → g ≡ number.Got v d → (w : ℕ) → w ≡ wordOf kind v → (u : List ℕ) (r : Out) → Done (rowed (room t n) d (row (e .stored) id w 0)) n t u r
+      pub number-row : (v : ℕ) (d : Cursor) → g ≡ number.Got v d → (x : ℕ) → x ≡ wordOf kind v → (y : ℕ) → y ≡ storedOf kind → (u : List ℕ) (r : Out) → Done (rowed (room t n) d (row y id x 0)) n t u r
           → Done (onNumber kind id (room t n) (readNumber s set c (alignOf kind))) n t u r
       unfolding onNumber
-      number-row v d f w k u r h =
-          let z : readNumber s set c (alignOf kind) ≡ number.Got v d = rw entry at (sym (is .is) ∙ f) in
-          rw (z, ← k) (rw entry at h)
+      number-row v d f x k y stored u r h =
+          let z : readNumber s set c (alignOf kind) ≡ number.Got v d = rw wide at (sym (is .is) ∙ f) in
+          rw (z, ← k) (rw stored at h)
 
       pub number-short : (x : Shortage) → g ≡ number.Short x → Done (onNumber kind id (room t n) (readNumber s set c (alignOf kind))) n t t (Short x)
       unfolding onNumber
       number-short x f =
-          let z : readNumber s set c (alignOf kind) ≡ number.Short x = rw entry at (sym (is .is) ∙ f) in
+          let z : readNumber s set c (alignOf kind) ≡ number.Short x = rw wide at (sym (is .is) ∙ f) in
           is-short (rw z) (filled-none t n)
 
 -- by kind
@@ -151,13 +149,13 @@ module _ (s : List ℕ) (set : Settings) (kind id : ℕ) (c : Cursor) (t : List 
   unfolding scalarOf
   scalar-char16 e = is-refused (rw e) (filled-none t n)
 
-  pub scalar-string : kind ≡ 16 → (g : Text) → g ≡ stringType s set c → (u : List ℕ) (r : Out) → Done (onText 16 id (room t n) g) n t u r → Done (scalarOf s set kind id c (room t n)) n t u r
+  pub scalar-string : kind ≡ 16 → (g : Text) → g ≡ stringType s set c → (u : List ℕ) (r : Out) → Done (onText (storedOf 16) id (room t n) g) n t u r → Done (scalarOf s set kind id c (room t n)) n t u r
   unfolding scalarOf
-  scalar-string e g f u r h = rw (e, ← f) h
+  scalar-string e g f u r h = rw (e, ← f) (rw (own-stored 16 tt) at h)
 
-  pub scalar-wstring : kind ≡ 17 → (g : Text) → g ≡ wstringType s set c → (u : List ℕ) (r : Out) → Done (onText 17 id (room t n) g) n t u r → Done (scalarOf s set kind id c (room t n)) n t u r
+  pub scalar-wstring : kind ≡ 17 → (g : Text) → g ≡ wstringType s set c → (u : List ℕ) (r : Out) → Done (onText (storedOf 17) id (room t n) g) n t u r → Done (scalarOf s set kind id c (room t n)) n t u r
   unfolding scalarOf
-  scalar-wstring e g f u r h = rw (e, ← f) h
+  scalar-wstring e g f u r h = rw (e, ← f) (rw (own-stored 17 tt) at h)
 
   module _ (a : kind ≡ 1 → ⊥) (b : kind ≡ 11 → ⊥) (d : kind ≡ 15 → ⊥) (i : kind ≡ 16 → ⊥) (j : kind ≡ 17 → ⊥) (p : Bool) (is : p ≡ isPrimitive kind) where
     pub scalar-number : p ≡ true → (u : List ℕ) (r : Out) → Done (onNumber kind id (room t n) (readNumber s set c (alignOf kind))) n t u r → Done (scalarOf s set kind id c (room t n)) n t u r

@@ -1,6 +1,7 @@
 -- Lists of values that open nothing.
 use Prim.Native.Nat.{ℕ, zero, suc, _+_, _-_}
 use mathlib.Core.List.{List, [], _∷_}
+use Rattle.ground.specs.Choice.{pick, among}
 use Rattle.wire.specs.declared.cursor.Cursor.{Cursor}
 use Rattle.wire.specs.declared.cursor.Place.{Place}
 use Rattle.wire.specs.declared.cursor.Place.the-variants as place
@@ -28,3 +29,13 @@ onBlock (place.At d) o = o
 -- "for BYTE and UINT8, after its bytes": they are asked for in one block
 unfoldable pub blockOf : List ℕ → Settings → ℕ → ℕ → ℕ → Cursor → ℕ → Outcome
 blockOf s set kind id count c room = onBlock (seekTo s c count) (listOf s set kind id count c room)
+
+-- a list of primitives, by their kind: "a list's row after its length (for BYTE and UINT8, after its bytes)"
+unfoldable pub primitivesOf : List ℕ → Settings → ℕ → ℕ → ℕ → Cursor → ℕ → Outcome
+primitivesOf s set kind id count c room =
+    pick (among (2 ∷ 13 ∷ []) kind) (blockOf s set kind id count c room) (listOf s set kind id count c room)
+
+-- a list of bitmasks or of texts, by the kind that they are read as. "ENUM and BITMASK count so", as non-primitives: a list of bitmasks is no list of
+-- BYTE or UINT8, though "A bitmask is 13, 6, 7 or 8 by bound"
+unfoldable pub bitmasksOrTextsOf : List ℕ → Settings → ℕ → ℕ → ℕ → Cursor → ℕ → Outcome
+bitmasksOrTextsOf s set kind id count c room = listOf s set kind id count c room

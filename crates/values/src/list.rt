@@ -1,9 +1,13 @@
 // Lists of values that open nothing.
 ghost use Rattle.table.specs.Rows.{room};
-ghost use Rattle.table.specs.Outcome.{Done};
+ghost use Rattle.table.specs.Code.Outcome.{Done};
 ghost use Rattle.values.specs.Scalar.{scalarOf};
-ghost use Rattle.values.specs.List.{elementsFrom, listOf, blockOf};
-ghost use Rattle.values.specs.Quick.{Quickly};
+ghost use Rattle.values.specs.List.{elementsFrom, listOf, blockOf, primitivesOf, bitmasksOrTextsOf};
+ghost use Rattle.values.specs.Code.Quick.{Quickly};
+use kinds::names::BYTE;
+use kinds::names::SEQUENCE;
+use kinds::names::STRING8;
+use kinds::names::UINT8;
 use table::out::Out;
 use table::out::Refusal;
 use table::rows::Row;
@@ -14,15 +18,23 @@ use wire::cursor::Place;
 use wire::settings::Settings;
 
 // The quick way for a list's texts, the most frequent of what is no number.
-fn text(s: &[u8], set: Settings, t: &mut [u64], kind: u8, id: u64, at: Cursor, n: usize) -> usize
+fn text_element(
+    s: &[u8],
+    set: Settings,
+    t: &mut [u64],
+    kind: u8,
+    id: u64,
+    at: Cursor,
+    n: usize,
+) -> usize
     ensures { λ r. ⌜ Quickly (scalarOf (now (s .entry)) set kind id at (room (now (t .entry)) n)) 1 n (at .origin) (now (t .entry)) (now (t .exit)) r ⌝ }
 {
     match kind {
-        16 => {
+        STRING8 => {
             if is_full(t, n) {
                 return 0;
             }
-            crate::quick::string(s, set, t, id, at, n)
+            crate::quick::text_at(s, set, t, id, at, n)
         }
         _ => 0,
     }
@@ -33,21 +45,19 @@ fn each(s: &[u8], set: Settings, t: &mut [u64], kind: u8, count: u64, at: Cursor
     ensures { λ r. ⌜ Done (elementsFrom (now (s .entry)) set kind count 0 at (room (now (t .entry)) n)) n (now (t .entry)) (now (t .exit)) r ⌝ }
 {
     let mut i: u64 = 0;
-    let mut pos = at.pos;
-    let mut origin = at.origin;
+    let mut c = at;
     let mut m = n;
     while i < count {
-        let past = text(s, set, t, kind, i, Cursor { pos, origin }, m);
+        let past = text_element(s, set, t, kind, i, c, m);
         if 0 < past {
-            pos = past;
+            c = Cursor::new(past, c.origin);
             m += 1;
             i += 1;
             continue;
         }
-        match crate::scalar::scalar(s, set, t, kind, i, Cursor { pos, origin }, m) {
+        match crate::scalar::scalar(s, set, t, kind, i, c, m) {
             Out::Read(d, k) => {
-                pos = d.pos;
-                origin = d.origin;
+                c = d;
                 m = k;
             }
             Out::Short(x) => {
@@ -59,7 +69,7 @@ fn each(s: &[u8], set: Settings, t: &mut [u64], kind: u8, count: u64, at: Cursor
         }
         i += 1;
     }
-    Out::Read(Cursor { pos, origin }, m)
+    Out::Read(c, m)
 }
 
 // The elements: all at once where they are numbers that are there whole, else one by one.
@@ -74,7 +84,7 @@ fn elements(
 ) -> Out
     ensures { λ r. ⌜ Done (elementsFrom (now (s .entry)) set kind count 0 at (room (now (t .entry)) n)) n (now (t .entry)) (now (t .exit)) r ⌝ }
 {
-    let past = crate::quick::run(s, set, t, kind, count, at, n);
+    let past = crate::quick::numbers_at(s, set, t, kind, count, at, n);
     if 0 < past {
         return Out::Read(Cursor::new(past, at.origin), n + (count as usize));
     }
@@ -97,12 +107,10 @@ pub fn list(
     if is_full(t, n) {
         return Out::Refused(Refusal::NoRoom);
     }
-    let entry = kinds::of_kind(kind);
-    let stored = entry.stored;
     let row = Row {
-        kind: 25,
+        kind: kinds::stored_of(SEQUENCE) as u64,
         id,
-        a: stored as u64,
+        a: kinds::stored_of(kind) as u64,
         b: count,
     };
     put_row(t, n, row);
@@ -126,4 +134,39 @@ pub fn block(
         Place::Short(x) => Out::Short(x),
         Place::At(_) => list(s, set, t, kind, id, count, at, n),
     }
+}
+
+// A list of primitives.
+pub fn primitives(
+    s: &[u8],
+    set: Settings,
+    t: &mut [u64],
+    kind: u8,
+    id: u64,
+    count: u64,
+    at: Cursor,
+    n: usize,
+) -> Out
+    ensures { λ r. ⌜ Done (primitivesOf (now (s .entry)) set kind id count at (room (now (t .entry)) n)) n (now (t .entry)) (now (t .exit)) r ⌝ }
+{
+    if (kind == BYTE) | (kind == UINT8) {
+        return block(s, set, t, kind, id, count, at, n);
+    }
+    list(s, set, t, kind, id, count, at, n)
+}
+
+// A list of bitmasks or of texts, by the kind that they are read as. A bitmask that is read as UINT8 is no byte: its list asks for no block.
+pub fn bitmasks_or_texts(
+    s: &[u8],
+    set: Settings,
+    t: &mut [u64],
+    kind: u8,
+    id: u64,
+    count: u64,
+    at: Cursor,
+    n: usize,
+) -> Out
+    ensures { λ r. ⌜ Done (bitmasksOrTextsOf (now (s .entry)) set kind id count at (room (now (t .entry)) n)) n (now (t .entry)) (now (t .exit)) r ⌝ }
+{
+    list(s, set, t, kind, id, count, at, n)
 }

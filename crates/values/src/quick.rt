@@ -1,15 +1,22 @@
 // The quick way: numbers, booleans and texts that are there whole, and whose rows have a place. Most members and elements are such. It reads by the same
-// rules as `scalar`, and leaves to that whatever it does not take.
+// rules as `scalar`, and leaves to that whatever it does not take. A function here tells the position after what it took; or 0, and nothing is done. A word,
+// and not an enum, is what a call hands back in a register.
 ghost use mathlib.Core.Path.{_≡_};
 ghost use mathlib.Core.Bool.{true, false};
 ghost use Rattle.kinds.specs.Kinds.{alignOf, storedOf};
 ghost use Prim.Native.Nat.{_+_, _*_, _≤_, _<_};
 ghost use lib.ListN.{length};
-ghost use Rattle.table.specs.Rows.{capacity, room, noRoom, Filled};
+ghost use Rattle.table.specs.Rows.{capacity, room, noRoom};
+ghost use Rattle.table.specs.Code.Rows.{Filled};
 ghost use Rattle.values.specs.Scalar.{scalarOf};
 ghost use Rattle.values.specs.List.{elementsFrom};
-ghost use Rattle.values.specs.Quick.{isNumber, isTaken, Quickly, rowsFrom, WhereThere};
+ghost use Rattle.values.specs.Code.Quick.{isNumber, isTaken, Quickly, WordAt, WordPut, rowsFrom, WhereThere};
 use crate::scalar::word_of;
+use kinds::names::BOOLEAN;
+use kinds::names::BYTE;
+use kinds::names::CHAR8;
+use kinds::names::FLOAT128;
+use kinds::names::STRING8;
 use table::rows::Row;
 use table::rows::is_full;
 use table::rows::put_row;
@@ -24,44 +31,55 @@ use wire::settings::Settings;
 fn is_number(kind: u8) -> bool
     ensures { λ r. ⌜ r ≡ isNumber kind ⌝ }
 {
-    (2 <= kind) & (kind <= 14) & !(kind == 11)
+    (BYTE <= kind) & (kind <= CHAR8) & !(kind == FLOAT128)
 }
 
-// A number and its row. With the width and the row's kind known, the machine's code for it is short.
-fn number(
-    s: &[u8],
-    set: Settings,
-    t: &mut [u64],
-    kind: u8,
-    stored: u64,
-    width: usize,
-    id: u64,
-    at: Cursor,
-    n: usize,
-) -> usize
-    requires { ⌜ (noRoom (now t) n ≡ false) × (isNumber kind ≡ true) × (stored ≡ storedOf kind) × (width ≡ alignOf kind) ⌝ }
-    ensures { λ r. ⌜ Quickly (scalarOf (now (s .entry)) set kind id at (room (now (t .entry)) n)) 1 n (at .origin) (now (t .entry)) (now (t .exit)) r ⌝ }
+// A row's word, and the position past the bytes that it was read from: 0 where they are not all there.
+pub struct Word {
+    pub value: u64,
+    pub past: usize,
+}
+
+// The word of a number. With the width known, the machine's code for it is short.
+fn word_at(s: &[u8], set: Settings, kind: u8, width: usize, at: Cursor) -> Word
+    requires { ⌜ (isNumber kind ≡ true) × (width ≡ alignOf kind) ⌝ }
+    ensures { λ r. ⌜ WordAt (now (s .entry)) set kind at r ⌝ }
 {
     let version = set.version;
     let order = set.order;
     let end = s.len();
     let q = at.start(s, version, width);
     if end < q + width {
-        return 0;
+        return Word { value: 0, past: 0 };
     }
     let v = from_bytes(s, order, q, width);
+    Word {
+        value: word_of(kind, width, v),
+        past: q + width,
+    }
+}
+
+// The row of a word.
+fn put_word(t: &mut [u64], kind: u8, id: u64, n: usize, w: Word) -> usize
+    requires { ⌜ noRoom (now t) n ≡ false ⌝ }
+    ensures { λ r. ⌜ WordPut (now (t .entry)) kind id n w (now (t .exit)) r ⌝ }
+{
+    let past = w.past;
+    if past == 0 {
+        return 0;
+    }
     let row = Row {
-        kind: stored,
+        kind: kinds::stored_of(kind) as u64,
         id,
-        a: word_of(kind, width, v),
+        a: w.value,
         b: 0,
     };
     put_row(t, n, row);
-    q + width
+    past
 }
 
 // A boolean, where it is 0 or 1.
-fn boolean(s: &[u8], set: Settings, t: &mut [u64], id: u64, at: Cursor, n: usize) -> usize
+fn boolean_at(s: &[u8], set: Settings, t: &mut [u64], id: u64, at: Cursor, n: usize) -> usize
     requires { ⌜ noRoom (now t) n ≡ false ⌝ }
     ensures { λ r. ⌜ Quickly (scalarOf (now (s .entry)) set 1 id at (room (now (t .entry)) n)) 1 n (at .origin) (now (t .entry)) (now (t .exit)) r ⌝ }
 {
@@ -74,7 +92,7 @@ fn boolean(s: &[u8], set: Settings, t: &mut [u64], id: u64, at: Cursor, n: usize
         return 0;
     }
     let row = Row {
-        kind: 1,
+        kind: kinds::stored_of(BOOLEAN) as u64,
         id,
         a: v,
         b: 0,
@@ -84,7 +102,7 @@ fn boolean(s: &[u8], set: Settings, t: &mut [u64], id: u64, at: Cursor, n: usize
 }
 
 // A text, where it is well-formed.
-pub fn string(s: &[u8], set: Settings, t: &mut [u64], id: u64, at: Cursor, n: usize) -> usize
+pub fn text_at(s: &[u8], set: Settings, t: &mut [u64], id: u64, at: Cursor, n: usize) -> usize
     requires { ⌜ noRoom (now t) n ≡ false ⌝ }
     ensures { λ r. ⌜ Quickly (scalarOf (now (s .entry)) set 16 id at (room (now (t .entry)) n)) 1 n (at .origin) (now (t .entry)) (now (t .exit)) r ⌝ }
 {
@@ -107,7 +125,7 @@ pub fn string(s: &[u8], set: Settings, t: &mut [u64], id: u64, at: Cursor, n: us
         return 0;
     }
     let row = Row {
-        kind: 16,
+        kind: kinds::stored_of(STRING8) as u64,
         id,
         a: start as u64,
         b: (size - 1) as u64,
@@ -116,9 +134,8 @@ pub fn string(s: &[u8], set: Settings, t: &mut [u64], id: u64, at: Cursor, n: us
     start + size
 }
 
-// Takes a value of this kind, and tells the position after it; or 0, and nothing is done. A word, and not an enum, is what a call
-// hands back in a register.
-pub fn take(
+// A value of this kind: most are numbers, which are read by the width that the table says.
+pub fn value_at(
     s: &[u8],
     set: Settings,
     t: &mut [u64],
@@ -132,56 +149,52 @@ pub fn take(
     if is_full(t, n) {
         return 0;
     }
+    if is_number(kind) {
+        let width = kinds::align_of(kind);
+        let word = match width {
+            1 => word_at(s, set, kind, 1, at),
+            2 => word_at(s, set, kind, 2, at),
+            4 => word_at(s, set, kind, 4, at),
+            _ => word_at(s, set, kind, 8, at),
+        };
+        return put_word(t, kind, id, n, word);
+    }
     match kind {
-        1 => boolean(s, set, t, id, at, n),
-        2 => number(s, set, t, kind, 13, 1, id, at, n),
-        3 => number(s, set, t, kind, 3, 2, id, at, n),
-        4 => number(s, set, t, kind, 4, 4, id, at, n),
-        5 => number(s, set, t, kind, 5, 8, id, at, n),
-        6 => number(s, set, t, kind, 6, 2, id, at, n),
-        7 => number(s, set, t, kind, 7, 4, id, at, n),
-        8 => number(s, set, t, kind, 8, 8, id, at, n),
-        9 => number(s, set, t, kind, 9, 4, id, at, n),
-        10 => number(s, set, t, kind, 10, 8, id, at, n),
-        12 => number(s, set, t, kind, 12, 1, id, at, n),
-        13 => number(s, set, t, kind, 13, 1, id, at, n),
-        14 => number(s, set, t, kind, 14, 1, id, at, n),
-        16 => string(s, set, t, id, at, n),
+        BOOLEAN => boolean_at(s, set, t, id, at, n),
+        STRING8 => text_at(s, set, t, id, at, n),
         _ => 0,
     }
 }
 
 // The same once more, for members that were found: the compiler takes a function into a loop where nothing else calls it, and a call for
 // each member would cost as much as the member.
-pub fn take_found(
+pub fn found_value_at(
     s: &[u8],
     set: Settings,
     t: &mut [u64],
     kind: u8,
     id: u64,
-    at: Cursor,
+    found: Cursor,
     n: usize,
 ) -> usize
-    ensures { λ r. ⌜ Quickly (scalarOf (now (s .entry)) set kind id at (room (now (t .entry)) n)) 1 n (at .origin) (now (t .entry)) (now (t .exit)) r × (0 < r → isTaken kind ≡ true) ⌝ }
+    ensures { λ r. ⌜ Quickly (scalarOf (now (s .entry)) set kind id found (room (now (t .entry)) n)) 1 n (found .origin) (now (t .entry)) (now (t .exit)) r × (0 < r → isTaken kind ≡ true) ⌝ }
 {
     if is_full(t, n) {
         return 0;
     }
+    if is_number(kind) {
+        let width = kinds::align_of(kind);
+        let word = match width {
+            1 => word_at(s, set, kind, 1, found),
+            2 => word_at(s, set, kind, 2, found),
+            4 => word_at(s, set, kind, 4, found),
+            _ => word_at(s, set, kind, 8, found),
+        };
+        return put_word(t, kind, id, n, word);
+    }
     match kind {
-        1 => boolean(s, set, t, id, at, n),
-        2 => number(s, set, t, kind, 13, 1, id, at, n),
-        3 => number(s, set, t, kind, 3, 2, id, at, n),
-        4 => number(s, set, t, kind, 4, 4, id, at, n),
-        5 => number(s, set, t, kind, 5, 8, id, at, n),
-        6 => number(s, set, t, kind, 6, 2, id, at, n),
-        7 => number(s, set, t, kind, 7, 4, id, at, n),
-        8 => number(s, set, t, kind, 8, 8, id, at, n),
-        9 => number(s, set, t, kind, 9, 4, id, at, n),
-        10 => number(s, set, t, kind, 10, 8, id, at, n),
-        12 => number(s, set, t, kind, 12, 1, id, at, n),
-        13 => number(s, set, t, kind, 13, 1, id, at, n),
-        14 => number(s, set, t, kind, 14, 1, id, at, n),
-        16 => string(s, set, t, id, at, n),
+        BOOLEAN => boolean_at(s, set, t, id, found, n),
+        STRING8 => text_at(s, set, t, id, found, n),
         _ => 0,
     }
 }
@@ -268,8 +281,8 @@ fn end_of(s: &[u8], t: &[u64], width: usize, count: u64, pos: usize, n: usize) -
     pos + k * width
 }
 
-// Takes a whole list of numbers, and tells the position after them; or 0, and nothing is done.
-pub fn run(
+// A whole list of numbers.
+pub fn numbers_at(
     s: &[u8],
     set: Settings,
     t: &mut [u64],
@@ -290,9 +303,8 @@ pub fn run(
     }
     let version = set.version;
     let order = set.order;
-    let entry = kinds::of_kind(kind);
-    let width = entry.align as usize;
-    let stored = entry.stored as u64;
+    let width = kinds::align_of(kind) as usize;
+    let stored = kinds::stored_of(kind) as u64;
     match at.align(s, version, width) {
         Place::Short(_) => 0,
         Place::At(c) => {

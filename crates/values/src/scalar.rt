@@ -1,14 +1,19 @@
 // One value that opens nothing: it is read, judged, and then given its row.
 ghost use mathlib.Core.Path.{_≡_};
 ghost use Prim.Native.Nat.{_≤_, _<_, _^_};
-ghost use Rattle.kinds.specs.Kinds.{alignOf};
+ghost use Rattle.kinds.specs.Kinds.{alignOf, storedOf};
 ghost use Rattle.table.specs.Rows.{room};
-ghost use Rattle.table.specs.Outcome.{Done};
+ghost use Rattle.table.specs.Code.Outcome.{Done};
 ghost use Rattle.wire.specs.Number.{readBoolean, readFloat128, readNumber};
 ghost use Rattle.values.specs.Scalar.{rowed, boolWord, onBoolean, onFloat128, wordOf, onNumber, onText, scalarOf, enumOf};
+use kinds::names::BOOLEAN;
+use kinds::names::CHAR16;
+use kinds::names::FLOAT128;
 use kinds::names::INT8;
 use kinds::names::INT16;
 use kinds::names::INT32;
+use kinds::names::STRING8;
+use kinds::names::STRING16;
 use table::out::Out;
 use table::out::Refusal;
 use table::rows::Row;
@@ -44,7 +49,7 @@ fn boolean(s: &[u8], set: Settings, t: &mut [u64], id: u64, at: Cursor, n: usize
     match wire::number::read_boolean(s, set, at) {
         Boolean::Got(v, c) => {
             let row = Row {
-                kind: 1,
+                kind: kinds::stored_of(BOOLEAN) as u64,
                 id,
                 a: bool_word(v),
                 b: 0,
@@ -62,7 +67,7 @@ fn float128(s: &[u8], set: Settings, t: &mut [u64], id: u64, at: Cursor, n: usiz
     match wire::number::read_float128(s, set, at) {
         Float128::Got(low, high, c) => {
             let row = Row {
-                kind: 11,
+                kind: kinds::stored_of(FLOAT128) as u64,
                 id,
                 a: low,
                 b: high,
@@ -88,9 +93,8 @@ fn number(s: &[u8], set: Settings, t: &mut [u64], kind: u8, id: u64, at: Cursor,
     requires { ⌜ (0 < alignOf kind) × (alignOf kind ≤ 8) ⌝ }
     ensures { λ r. ⌜ Done (onNumber kind id (room (now (t .entry)) n) (readNumber (now (s .entry)) set at (alignOf kind))) n (now (t .entry)) (now (t .exit)) r ⌝ }
 {
-    let entry = kinds::of_kind(kind);
-    let width = entry.align as usize;
-    let stored = entry.stored;
+    let width = kinds::align_of(kind) as usize;
+    let stored = kinds::stored_of(kind);
     match wire::number::read_number(s, set, at, width) {
         Number::Got(v, c) => {
             let row = Row {
@@ -106,13 +110,13 @@ fn number(s: &[u8], set: Settings, t: &mut [u64], kind: u8, id: u64, at: Cursor,
 }
 
 // The row of a text that was read: where it stands in the data, and how long it is.
-fn string(t: &mut [u64], id: u64, n: usize, kind: u64, got: Text) -> Out
-    ensures { λ r. ⌜ Done (onText kind id (room (now (t .entry)) n) got) n (now (t .entry)) (now (t .exit)) r ⌝ }
+fn text_row(t: &mut [u64], id: u64, n: usize, kind: u8, got: Text) -> Out
+    ensures { λ r. ⌜ Done (onText (storedOf kind) id (room (now (t .entry)) n) got) n (now (t .entry)) (now (t .exit)) r ⌝ }
 {
     match got {
         Text::Got(start, size, c) => {
             let row = Row {
-                kind,
+                kind: kinds::stored_of(kind) as u64,
                 id,
                 a: start as u64,
                 b: size as u64,
@@ -137,11 +141,11 @@ pub fn scalar(
     ensures { λ r. ⌜ Done (scalarOf (now (s .entry)) set kind id at (room (now (t .entry)) n)) n (now (t .entry)) (now (t .exit)) r ⌝ }
 {
     match kind {
-        1 => boolean(s, set, t, id, at, n),
-        11 => float128(s, set, t, id, at, n),
-        15 => Out::Refused(Refusal::Unsupported),
-        16 => string(t, id, n, 16, text::string::string_type(s, set, at)),
-        17 => string(t, id, n, 17, text::string::wstring_type(s, set, at)),
+        BOOLEAN => boolean(s, set, t, id, at, n),
+        FLOAT128 => float128(s, set, t, id, at, n),
+        CHAR16 => Out::Refused(Refusal::Unsupported),
+        STRING8 => text_row(t, id, n, STRING8, text::string::string_type(s, set, at)),
+        STRING16 => text_row(t, id, n, STRING16, text::string::wstring_type(s, set, at)),
         _ => {
             if kinds::is_primitive(kind) {
                 return number(s, set, t, kind, id, at, n);

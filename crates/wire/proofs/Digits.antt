@@ -1,12 +1,13 @@
 -- Laws of the number that bytes spell: one digit more, and a number of two parts. Assumes nothing.
 use Prim.Native.Nat.{ℕ, zero, suc, _<_, _≤_, _+_, _-_, _*_, _^_, _%_, _/_}
-use mathlib.Core.Path.{_≡_, refl, sym, _∙_}
+use mathlib.Core.Path.{_≡_, refl, sym, ap, _∙_}
 use mathlib.Core.List.{List}
 use native.Mathlib.Omega.{arith}
-use native.Mathlib.Nat.{pow-le-pow-right, sub-self, pow-succ', add-mul, mul-assoc, add-zero, zero-add, mul-add-mod-self-right, mod-eq-of-lt, mul-add-div-right, div-eq-of-lt}
+use native.Mathlib.Nat.{pow-le-pow-right, sub-self, pow-succ', add-mul, mul-assoc, add-zero, zero-add, zero-mul, div-one, div-div-eq-div-mul, mul-add-mod-self-right, mod-eq-of-lt, mul-add-div-right, div-eq-of-lt}
 use lib.ListN.{getD}
 use lib.Dec.{lit<}
-use Rattle.wire.specs.Number.{numberAt, Bytes, turnedTwo, turnedFour, turnedEight}
+use Rattle.wire.specs.Number.{numberAt}
+use Rattle.wire.specs.Code.Reads.{Bytes, turned}
 use Rattle.wire.specs.declared.settings.ByteOrder.{ByteOrder}
 use Rattle.wire.specs.declared.settings.ByteOrder.the-variants.{BigEndian, LittleEndian}
 
@@ -87,46 +88,28 @@ unfolding numberAt
 one-byte BigEndian s p = omega arith
 one-byte LittleEndian s p = rw (add-zero p) (omega arith)
 
--- two and four bytes spelt out, and eight by their two halves
+-- where the width is known
 module _ (o : ByteOrder) (s : List ℕ) (p r : ℕ) where
-  pub be-two : o ≡ BigEndian → r ≡ getD s p 0 * 256 + getD s (p + 1) 0 → r ≡ numberAt o 0 s p 2
-  unfolding numberAt
-  be-two k e = rw k (omega (arith, e))
-
-  pub le-two : o ≡ LittleEndian → r ≡ getD s (p + 1) 0 * 256 + getD s p 0 → r ≡ numberAt o 0 s p 2
-  unfolding numberAt
-  le-two k e = rw (k, add-zero) (omega (arith, e))
-
-  -- where the width is known
   pub of-width : (w k : ℕ) → w ≡ k → r ≡ numberAt o 0 s p k → r ≡ numberAt o 0 s p w
   of-width w k e h = rw e h
 
   pub below-width : (w k : ℕ) → w ≡ k → r < 256 ^ k → r < 256 ^ w
   below-width w k e h = rw e h
 
-  pub be-four : o ≡ BigEndian → r ≡ ((getD s p 0 * 256 + getD s (p + 1) 0) * 256 + getD s (p + 2) 0) * 256 + getD s (p + 3) 0 → r ≡ numberAt o 0 s p 4
+-- two and four bytes spelt out, the last the highest, and a number of two parts
+module _ (s : List ℕ) (p r : ℕ) where
+  pub le-two : r ≡ getD s (p + 1) 0 * 256 + getD s p 0 → r ≡ numberAt LittleEndian 0 s p 2
   unfolding numberAt
-  be-four k e =
-      let f : p + 1 + 1 ≡ p + 2 = omega arith in
-      let g : p + 2 + 1 ≡ p + 3 = omega arith in
-      rw (k, f, g) (omega (arith, e))
+  le-two e = rw add-zero (omega (arith, e))
 
-  pub le-four : o ≡ LittleEndian → r ≡ ((getD s (p + 3) 0 * 256 + getD s (p + 2) 0) * 256 + getD s (p + 1) 0) * 256 + getD s p 0 → r ≡ numberAt o 0 s p 4
+  pub le-four : r ≡ ((getD s (p + 3) 0 * 256 + getD s (p + 2) 0) * 256 + getD s (p + 1) 0) * 256 + getD s p 0 → r ≡ numberAt LittleEndian 0 s p 4
   unfolding numberAt
-  le-four k e = rw (k, add-zero) (omega (arith, e))
+  le-four e = rw add-zero (omega (arith, e))
 
-  module _ (a b : ℕ) (first : a ≡ numberAt o 0 s p 4) (second : b ≡ numberAt o 0 s (p + 4) 4) where
-    pub be-eight : o ≡ BigEndian → r ≡ a * 256 ^ 4 + b → r ≡ numberAt o 0 s p 8
-    be-eight k e =
-        let f : a ≡ numberAt BigEndian 0 s p 4 = rw k at first in
-        let g : b ≡ numberAt BigEndian 0 s (p + 4) 4 = rw k at second in
-        rw k (e ∙ rw (f, g) (sym (be-parts 4 4 0 s p ∙ number-above BigEndian 4 (numberAt BigEndian 0 s p 4) s (p + 4))))
-
-    pub le-eight : o ≡ LittleEndian → r ≡ b * 256 ^ 4 + a → r ≡ numberAt o 0 s p 8
-    le-eight k e =
-        let f : a ≡ numberAt LittleEndian 0 s p 4 = rw k at first in
-        let g : b ≡ numberAt LittleEndian 0 s (p + 4) 4 = rw k at second in
-        rw k (e ∙ rw (f, g) (sym (le-parts 4 4 0 s p ∙ number-above LittleEndian 4 (numberAt LittleEndian 0 s (p + 4) 4) s p)))
+  pub le-joined : (a b low high : ℕ) → low ≡ numberAt LittleEndian 0 s p a → high ≡ numberAt LittleEndian 0 s (p + a) b → r ≡ low + high * 256 ^ a → r ≡ numberAt LittleEndian 0 s p (a + b)
+  le-joined a b low high f g e =
+      let h : numberAt LittleEndian 0 s p (a + b) ≡ high * 256 ^ a + low = rw (f, g) (le-parts a b 0 s p ∙ number-above LittleEndian a (numberAt LittleEndian 0 s (p + a) b) s p) in
+      omega (arith, h)
 
 -- a number of 16 bytes by its two words, and these back from it
 pub be-words : (s : List ℕ) (p high low : ℕ) → high ≡ numberAt BigEndian 0 s p 8 → low ≡ numberAt BigEndian 0 s (p + 8) 8 → high * 2 ^ 64 + low ≡ numberAt BigEndian 0 s p 16
@@ -143,73 +126,60 @@ high-word high low h = mul-add-div-right {m = 2 ^ 64} (lit< tt) high low ∙ rw 
 
 -- ---- bytes in the other order
 
-module _ (s : List ℕ) (p : ℕ) where
-  pub two-bytes : getD s p 0 < 256 → getD s (p + 1) 0 < 256 → Bytes s p 2
-  two-bytes a b zero h = rw (add-zero p) a
-  two-bytes a b (suc zero) h = b
-  two-bytes a b (suc (suc k)) h = absurd (omega arith)
-
-  pub four-bytes : getD s p 0 < 256 → getD s (p + 1) 0 < 256 → getD s (p + 2) 0 < 256 → getD s (p + 3) 0 < 256 → Bytes s p 4
-  four-bytes a b c d zero h = rw (add-zero p) a
-  four-bytes a b c d (suc zero) h = b
-  four-bytes a b c d (suc (suc zero)) h = c
-  four-bytes a b c d (suc (suc (suc zero))) h = d
-  four-bytes a b c d (suc (suc (suc (suc k)))) h = absurd (omega arith)
-
 last-digit : (x y : ℕ) → y < 256 → (x * 256 + y) % 256 ≡ y
 last-digit x y h = mul-add-mod-self-right x 256 y ∙ mod-eq-of-lt h
 
-turn-two : (a b : ℕ) → a < 256 → b < 256 → turnedTwo (b * 256 + a) ≡ a * 256 + b
-unfolding turnedTwo
-turn-two a b ha hb =
-    let f : (b * 256 + a) / 256 ≡ b = omega arith in
-    rw (last-digit b a ha, f, mod-eq-of-lt hb)
+-- at any width: turned, the number of the one order is that of the other
+pub turned-is : (w : ℕ) (s : List ℕ) (p : ℕ) → Bytes s → turned w (numberAt LittleEndian 0 s p w) ≡ numberAt BigEndian 0 s p w
+unfolding turned numberAt
+turned-is zero s p bytes = refl
+turned-is (suc w) s p bytes =
+    let first : ℕ = getD s p 0 in
+    let rest : ℕ = numberAt LittleEndian 0 s (p + 1) w in
+    let e : 1 + w ≡ suc w = omega arith in
+    let one : numberAt LittleEndian rest s p 1 ≡ rest * 256 + first = rw (add-zero p) in
+    let parts : numberAt LittleEndian 0 s p (suc w) ≡ numberAt LittleEndian rest s p 1 = rw e at (le-parts 1 w 0 s p) in
+    let little : numberAt LittleEndian 0 s p (suc w) ≡ rest * 256 + first = parts ∙ one in
+    let digit : numberAt LittleEndian 0 s p (suc w) % 256 ≡ first = rw little (last-digit rest first (bytes p)) in
+    let above : numberAt LittleEndian 0 s p (suc w) / 256 ≡ rest = rw little (omega (arith, bytes p)) in
+    let big : numberAt BigEndian 0 s p (suc w) ≡ first * 256 ^ w + numberAt BigEndian 0 s (p + 1) w = number-above BigEndian w (0 * 256 + first) s (p + 1) ∙ rw (zero-mul, zero-add) in
+    rw (digit, above, turned-is w s (p + 1) bytes) (sym big)
 
-turn-four : (a b c d : ℕ) → a < 256 → b < 256 → c < 256 → d < 256 → turnedFour (((d * 256 + c) * 256 + b) * 256 + a) ≡ ((a * 256 + b) * 256 + c) * 256 + d
-unfolding turnedFour
-turn-four a b c d ha hb hc hd =
-    let f : (((d * 256 + c) * 256 + b) * 256 + a) / 256 ≡ (d * 256 + c) * 256 + b = omega arith in
-    let g : (((d * 256 + c) * 256 + b) * 256 + a) / 256 ^ 2 ≡ d * 256 + c = omega arith in
-    let h : (((d * 256 + c) * 256 + b) * 256 + a) / 256 ^ 3 ≡ d = omega arith in
-    rw (last-digit ((d * 256 + c) * 256 + b) a ha, f, last-digit (d * 256 + c) b hb, g, last-digit d c hc, h, mod-eq-of-lt hd) (omega arith)
+-- a number of two parts, turned part by part
+power-parts : (a b : ℕ) → 256 ^ (a + b) ≡ 256 ^ a * 256 ^ b
+power-parts zero b = rw zero-add (omega arith)
+power-parts (suc a) b =
+    let e : suc a + b ≡ suc (a + b) = omega arith in
+    rw (e, pow-succ' 256 (a + b), power-parts a b, pow-succ' 256 a) (sym (mul-assoc 256 (256 ^ a) (256 ^ b)))
 
--- what the two orders make of the same bytes
-module _ (o : ByteOrder) (s : List ℕ) (p v r : ℕ) where
-  pub turned-two : o ≡ BigEndian → Bytes s p 2 → v ≡ numberAt LittleEndian 0 s p 2 → r ≡ turnedTwo v → r ≡ numberAt o 0 s p 2
-  turned-two k h e f =
-      let a : getD s p 0 < 256 = rw (add-zero p) at (h 0 (lit< tt)) in
-      let b : getD s (p + 1) 0 < 256 = h 1 (lit< tt) in
-      be-two o s p r k (f ∙ rw (e ∙ sym (le-two LittleEndian s p (getD s (p + 1) 0 * 256 + getD s p 0) refl refl)) (turn-two (getD s p 0) (getD s (p + 1) 0) a b))
+pub turned-parts : (a b v : ℕ) → turned (a + b) v ≡ turned a v * 256 ^ b + turned b (v / 256 ^ a)
+unfolding turned
+turned-parts zero b v = rw (zero-add, zero-mul, zero-add, div-one)
+turned-parts (suc a) b v =
+    let e : suc a + b ≡ suc (a + b) = omega arith in
+    let ih = turned-parts a b (v / 256) in
+    let d : v / 256 / 256 ^ a ≡ v / 256 ^ suc a = div-div-eq-div-mul v 256 (256 ^ a) ∙ ap (λ (x : ℕ). v / x) (sym (pow-succ' 256 a)) in
+    let m : v % 256 * 256 ^ (a + b) ≡ v % 256 * 256 ^ a * 256 ^ b = ap (λ (x : ℕ). v % 256 * x) (power-parts a b) ∙ sym (mul-assoc (v % 256) (256 ^ a) (256 ^ b)) in
+    rw (e, ih, m, d, add-mul (v % 256 * 256 ^ a) (turned a (v / 256)) (256 ^ b)) (omega arith)
 
-  pub turned-four : o ≡ BigEndian → Bytes s p 4 → v ≡ numberAt LittleEndian 0 s p 4 → r ≡ turnedFour v → r ≡ numberAt o 0 s p 4
-  turned-four k h e f =
-      let a : getD s p 0 < 256 = rw (add-zero p) at (h 0 (lit< tt)) in
-      be-four o s p r k
-      (f
-      ∙ rw (e ∙ sym (le-four LittleEndian s p (((getD s (p + 3) 0 * 256 + getD s (p + 2) 0) * 256 + getD s (p + 1) 0) * 256 + getD s p 0) refl refl))
-      (turn-four (getD s p 0) (getD s (p + 1) 0) (getD s (p + 2) 0) (getD s (p + 3) 0) a (h 1 (lit< tt)) (h 2 (lit< tt)) (h 3 (lit< tt))))
+pub turned-joined : (a b v high low r : ℕ) → high ≡ turned a v → low ≡ turned b (v / 256 ^ a) → r ≡ high * 256 ^ b + low → r ≡ turned (a + b) v
+turned-joined a b v high low r e f is = is ∙ rw (e, f) (sym (turned-parts a b v))
 
-  pub same-two : o ≡ LittleEndian → v ≡ numberAt LittleEndian 0 s p 2 → v ≡ numberAt o 0 s p 2
-  same-two k e = rw k e
+-- four bytes spelt out
+four-digits : (a b c d : ℕ) → a * 16777216 + b * 65536 + c * 256 + d ≡ a * 256 ^ 3 + (b * 256 ^ 2 + (c * 256 ^ 1 + (d * 256 ^ 0 + 0)))
+four-digits a b c d = omega arith
 
-  pub same-four : o ≡ LittleEndian → v ≡ numberAt LittleEndian 0 s p 4 → v ≡ numberAt o 0 s p 4
-  same-four k e = rw k e
+pub turned-four : (v : ℕ) → v % 256 * 16777216 + v / 256 % 256 * 65536 + v / 65536 % 256 * 256 + v / 16777216 % 256 ≡ turned 4 v
+unfolding turned
+turned-four v =
+    let two : v / 256 / 256 ≡ v / 65536 = div-div-eq-div-mul v 256 256 in
+    let three : v / 65536 / 256 ≡ v / 16777216 = div-div-eq-div-mul v 65536 256 in
+    rw (two, three) (four-digits (v % 256) (v / 256 % 256) (v / 65536 % 256) (v / 16777216 % 256))
 
-four-below : (s : List ℕ) (p v : ℕ) → Bytes s p 4 → v ≡ numberAt LittleEndian 0 s p 4 → v < 256 ^ 4
-four-below s p v h e =
-    let a : getD s p 0 < 256 = rw (add-zero p) at (h 0 (lit< tt)) in
-    let f : v ≡ ((getD s (p + 3) 0 * 256 + getD s (p + 2) 0) * 256 + getD s (p + 1) 0) * 256 + getD s p 0 = e ∙ sym (le-four LittleEndian s p _ refl refl) in
-    omega (arith, h 1 (lit< tt), h 2 (lit< tt), h 3 (lit< tt))
+-- a number that was read with the last byte the highest, in the order that is asked for: at any width
+module _ (o : ByteOrder) (w : ℕ) (s : List ℕ) (p v : ℕ) (is : v ≡ numberAt LittleEndian 0 s p w) where
+  pub in-order : o ≡ LittleEndian → v ≡ numberAt o 0 s p w
+  in-order k = rw k is
 
-module _ (o : ByteOrder) (s : List ℕ) (p v r : ℕ) where
-  pub turned-eight : o ≡ BigEndian → Bytes s p 4 → Bytes s (p + 4) 4 → v ≡ numberAt LittleEndian 0 s (p + 4) 4 * 256 ^ 4 + numberAt LittleEndian 0 s p 4 → r ≡ turnedEight v → r ≡ numberAt o 0 s p 8
-  unfolding turnedEight
-  turned-eight k h g e f =
-      let low : numberAt LittleEndian 0 s p 4 < 256 ^ 4 = four-below s p (numberAt LittleEndian 0 s p 4) h refl in
-      let m : v % 256 ^ 4 ≡ numberAt LittleEndian 0 s p 4 = rw e (mul-add-mod-self-right (numberAt LittleEndian 0 s (p + 4) 4) (256 ^ 4) (numberAt LittleEndian 0 s p 4) ∙ mod-eq-of-lt low) in
-      let d : v / 256 ^ 4 ≡ numberAt LittleEndian 0 s (p + 4) 4 = rw e (mul-add-div-right {m = 256 ^ 4} (lit< tt) (numberAt LittleEndian 0 s (p + 4) 4) (numberAt LittleEndian 0 s p 4) ∙ rw (div-eq-of-lt low) (omega arith)) in
-      be-eight o s p r (turnedFour (v % 256 ^ 4)) (turnedFour (v / 256 ^ 4)) (turned-four o s p (v % 256 ^ 4) (turnedFour (v % 256 ^ 4)) k h m refl) (turned-four o s (p + 4) (v / 256 ^ 4) (turnedFour (v / 256 ^ 4)) k g d refl) k f
-
-  pub same-eight : o ≡ LittleEndian → v ≡ numberAt LittleEndian 0 s (p + 4) 4 * 256 ^ 4 + numberAt LittleEndian 0 s p 4 → v ≡ numberAt o 0 s p 8
-  same-eight k e =
-      rw k (le-eight LittleEndian s p v (numberAt LittleEndian 0 s p 4) (numberAt LittleEndian 0 s (p + 4) 4) refl refl refl e)
+  pub turned-order : o ≡ BigEndian → Bytes s → (r : ℕ) → r ≡ turned w v → r ≡ numberAt o 0 s p w
+  turned-order k bytes r e = rw k (e ∙ rw is (turned-is w s p bytes))

@@ -3,4 +3,5 @@ pub mod Digits
 pub mod Numbers
 pub mod Words
 pub mod Identifiers
+pub mod Contents
 mod Examples

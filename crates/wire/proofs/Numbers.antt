@@ -8,8 +8,11 @@ use lib.ListN.{length, getD}
 use lib.Dec.{lit<}
 use borrow.Author.Tests.{ne-eqb}
 use native.Mathlib.Nat.{add-zero}
+use Rattle.kinds.specs.Kinds.{alignOf}
+use Rattle.kinds.proofs.Table.{float128-align}
 use Rattle.wire.specs.Place.{cursorAt, moved, alignmentOf, paddingOf, seekTo, alignTo}
-use Rattle.wire.specs.Number.{numberAt, onBytes, numberHere, onAligned, readNumber, halvesOf, float128Here, readFloat128, booleanIn, onByte, readBoolean, afterNumber, HereIs, ReadIs}
+use Rattle.wire.specs.Number.{numberAt, onBytes, numberHere, onAligned, readNumber, halvesOf, float128Here, readFloat128, booleanIn, onByte, readBoolean, afterNumber}
+use Rattle.wire.specs.Code.Reads.{HereIs, ReadIs}
 use Rattle.wire.specs.declared.settings.ByteOrder.{ByteOrder}
 use Rattle.wire.specs.declared.settings.ByteOrder.the-variants.{BigEndian, LittleEndian}
 use Rattle.wire.specs.declared.settings.Settings.{Settings}
@@ -72,14 +75,21 @@ module _ (s : List ℕ) (o : ByteOrder) (c : Cursor) (r : Place) (is : r ≡ see
   pub here16-little : (d : Cursor) (a b : ℕ) → r ≡ place.At d → o ≡ LittleEndian → a ≡ numberAt o 0 s (c .pos) 8 → b ≡ numberAt o 0 s (c .pos + 8) 8 → a < 256 ^ 8 → float128.Got a b d ≡ float128Here s o c
   here16-little d a b e k f g h = halves d b a e (rw k (le-words s (c .pos) a b (rw k at f) (rw k at g))) h
 
-module _ (s : List ℕ) (set : Settings) (c : Cursor) (r : Place) (is : r ≡ alignTo s (set .version) c 16) where
+-- FLOAT128 is aligned to what the table says
+pub float128-some : (a : ℕ) → a ≡ alignOf 11 → 0 < a
+float128-some a e = rw (e ∙ float128-align) (lit< tt)
+
+module _ (s : List ℕ) (set : Settings) (c : Cursor) (a : ℕ) (wide : a ≡ alignOf 11) (r : Place) (is : r ≡ alignTo s (set .version) c a) where
+  is16 : r ≡ alignTo s (set .version) c 16
+  is16 = rw (wide ∙ float128-align) at is
+
   pub read16-short : (x : Shortage) → r ≡ place.Short x → float128.Short x ≡ readFloat128 s set c
   unfolding readFloat128 halvesOf readNumber onAligned
-  read16-short x e = rw (sym is ∙ e)
+  read16-short x e = rw (sym is16 ∙ e)
 
   pub read16-at : (d : Cursor) (f : Float128) → r ≡ place.At d → f ≡ float128Here s (set .order) d → f ≡ readFloat128 s set c
   unfolding readFloat128 readNumber onAligned float128Here
-  read16-at d f e g = rw (sym is ∙ e) g
+  read16-at d f e g = rw (sym is16 ∙ e) g
 
 -- a byte that is to be a boolean
 pub boolean-no : (v : ℕ) (c : Cursor) → v ≡ 0 → boolean.Got false c ≡ booleanIn v c
@@ -223,3 +233,7 @@ module _ (s : List ℕ) (set : Settings) (c : Cursor) (n : ℕ) (d : Cursor) (af
   pub four-aligned : readNumber s set c 4 ≡ number.Got n d → alignTo s (set .version) d 4 ≡ place.At d
   unfolding readNumber
   four-aligned g = four-by (alignTo s (set .version) c 4) refl g
+
+-- a number that is there whole, as the code finds it
+pub read-whole : (s : List ℕ) (set : Settings) (c : Cursor) (w q v : ℕ) (d : Cursor) → (q + w ≤ length s → q ≡ c .pos + paddingOf c (alignmentOf (set .version) w)) → q + w ≤ length s → v ≡ numberAt (set .order) 0 s q w → v < 256 ^ w → d ≡ cursorAt (q + w) (c .origin) → ReadIs s set c w (number.Got v d)
+read-whole s set c w q v d starts h is small e = record { is = sym (read-there s set c w q v (starts h) h is ∙ ap (number.Got v) (sym e)); small = small }

@@ -1,8 +1,5 @@
 -- The ten representation identifiers.
 use Prim.Native.Nat.{ℕ, _%_}
-use mathlib.Core.List.{List}
-use mathlib.Core.Bool.{Bool}
-use lib.ListN.{getD}
 use lib.Dec.{eqb}
 use Rattle.ground.specs.Choice.{pick, both, _‥_, within}
 use Rattle.wire.specs.declared.settings.ByteOrder.{ByteOrder}
@@ -25,7 +22,3 @@ unfoldable pub settingsOf : ℕ → ℕ → Representation
 settingsOf first second =
     pick (both (eqb first 0) (within (0 ‥ 3) second)) (Known (settings (orderOf second) Xcdr1))
     (pick (both (eqb first 0) (within (6 ‥ 11) second)) (Known (settings (orderOf second) Xcdr2)) Unknown)
-
--- two strings of two bytes are the same
-unfoldable pub sameBytes : List ℕ → List ℕ → Bool
-sameBytes a b = both (eqb (getD a 0 0) (getD b 0 0)) (eqb (getD a 1 0) (getD b 1 0))

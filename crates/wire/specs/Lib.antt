@@ -2,3 +2,5 @@ pub mod Identifier
 pub mod Place
 pub mod Number
 pub mod Signed
+pub mod Dheader
+pub mod Code

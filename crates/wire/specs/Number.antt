@@ -1,6 +1,5 @@
 -- Numbers in the data.
-use Prim.Native.Nat.{ℕ, zero, suc, _+_, _*_, _%_, _/_, _^_, _<_}
-use mathlib.Core.Path.{_≡_}
+use Prim.Native.Nat.{ℕ, zero, suc, _+_, _*_, _%_, _/_, _^_}
 use mathlib.Core.List.{List}
 use mathlib.Core.Bool.{true, false}
 use lib.ListN.{getD}
@@ -21,27 +20,13 @@ use Rattle.wire.specs.declared.number.Float128.the-variants as float128
 use Rattle.wire.specs.declared.number.Boolean.{Boolean}
 use Rattle.wire.specs.declared.number.Boolean.the-variants as boolean
 
--- "Byte order by identifier." The number that w bytes from p spell, below what v already holds:
--- the first byte is the highest in big-endian, the last in little
+-- "Byte order by identifier." The number whose digits, in base 256, are those of v and below them the w bytes from p:
+-- of the bytes the first is the highest in big-endian, the last in little
 unfoldable pub numberAt : ByteOrder → ℕ → List ℕ → ℕ → ℕ → ℕ
 numberAt BigEndian v s p zero = v
 numberAt BigEndian v s p (suc w) = numberAt BigEndian (v * 256 + getD s p 0) s (p + 1) w
 numberAt LittleEndian v s p zero = v
 numberAt LittleEndian v s p (suc w) = numberAt LittleEndian (v * 256 + getD s (p + w) 0) s p w
-
--- w elements from p on are bytes. A list's elements may be any numbers; a slice's are such.
-abbrev pub Bytes : List ℕ → ℕ → ℕ → Type 0
-Bytes s p w = (k : ℕ) → k < w → getD s (p + k) 0 < 256
-
--- a number of two, four or eight bytes, with its bytes in the other order
-unfoldable pub turnedTwo : ℕ → ℕ
-turnedTwo v = v % 256 * 256 + v / 256 % 256
-
-unfoldable pub turnedFour : ℕ → ℕ
-turnedFour v = v % 256 * 256 ^ 3 + v / 256 % 256 * 256 ^ 2 + v / 256 ^ 2 % 256 * 256 + v / 256 ^ 3 % 256
-
-unfoldable pub turnedEight : ℕ → ℕ
-turnedEight v = turnedFour (v % 256 ^ 4) * 256 ^ 4 + turnedFour (v / 256 ^ 4)
 
 unfoldable pub onBytes : List ℕ → ByteOrder → ℕ → ℕ → Place → Number
 onBytes s o p w (place.Short x) = number.Short x
@@ -86,16 +71,3 @@ readBoolean s set c = onByte (readNumber s set c 1)
 unfoldable pub afterNumber : {A : Type 0} → (Shortage → A) → Number → (ℕ → Cursor → A) → A
 afterNumber short (number.Short x) next = short x
 afterNumber short (number.Got v c) next = next v c
-
--- A number that was read is below 256 ^ w. A list's elements may be any numbers, so this does not follow from the definition.
-abbrev pub Small : ℕ → Number → Type 0
-Small w (number.Short x) = Unit {0}
-Small w (number.Got v c) = v < 256 ^ w
-
-pub record HereIs (s : List ℕ) (o : ByteOrder) (c : Cursor) (w : ℕ) (r : Number) : Type 0 where
-  pub is : r ≡ numberHere s o w c
-  pub small : Small w r
-
-pub record ReadIs (s : List ℕ) (set : Settings) (c : Cursor) (w : ℕ) (r : Number) : Type 0 where
-  pub is : r ≡ readNumber s set c w
-  pub small : Small w r

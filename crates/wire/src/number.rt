@@ -3,12 +3,14 @@
 ghost use mathlib.Core.Path.{_≡_};
 ghost use Prim.Native.Nat.{_+_, _*_, _≤_, _<_, _^_};
 ghost use lib.ListN.{length};
-ghost use Rattle.wire.specs.Number.{numberAt, Bytes, turnedTwo, turnedFour, turnedEight, booleanIn, readFloat128, float128Here, readBoolean, ReadIs, HereIs};
+ghost use Rattle.wire.specs.Number.{numberAt, booleanIn, readFloat128, float128Here, readBoolean};
+ghost use Rattle.wire.specs.Code.Reads.{turned, ReadIs, HereIs};
 use crate::cursor::Cursor;
 use crate::cursor::Place;
 use crate::cursor::Shortage;
 use crate::settings::ByteOrder;
 use crate::settings::Settings;
+use kinds::names::FLOAT128;
 
 pub enum Number {
     Got(u64, Cursor),
@@ -88,34 +90,34 @@ pub fn four(a: u8, b: u8, c: u8, d: u8) -> u64
 // Two, four or eight bytes, the last the highest. Apart from what is then done with them, the compiler knows them as one load.
 fn two_here(s: &[u8], p: usize) -> u64
     requires { ⌜ p + 2 ≤ length (now s) ⌝ }
-    ensures { λ r. ⌜ (r ≡ numberAt ByteOrder.LittleEndian 0 (now (s .entry)) p 2) × (r < 256 ^ 2) × Bytes (now (s .entry)) p 2 ⌝ }
+    ensures { λ r. ⌜ (r ≡ numberAt ByteOrder.LittleEndian 0 (now (s .entry)) p 2) × (r < 256 ^ 2) ⌝ }
 {
     two(s[p + 1], s[p])
 }
 
 fn four_here(s: &[u8], p: usize) -> u64
     requires { ⌜ p + 4 ≤ length (now s) ⌝ }
-    ensures { λ r. ⌜ (r ≡ numberAt ByteOrder.LittleEndian 0 (now (s .entry)) p 4) × (r < 256 ^ 4) × Bytes (now (s .entry)) p 4 ⌝ }
+    ensures { λ r. ⌜ (r ≡ numberAt ByteOrder.LittleEndian 0 (now (s .entry)) p 4) × (r < 256 ^ 4) ⌝ }
 {
     four(s[p + 3], s[p + 2], s[p + 1], s[p])
 }
 
 fn eight_here(s: &[u8], p: usize) -> u64
     requires { ⌜ p + 8 ≤ length (now s) ⌝ }
-    ensures { λ r. ⌜ (r ≡ numberAt ByteOrder.LittleEndian 0 (now (s .entry)) (p + 4) 4 * 256 ^ 4 + numberAt ByteOrder.LittleEndian 0 (now (s .entry)) p 4) × (r < 256 ^ 8) × Bytes (now (s .entry)) p 4 × Bytes (now (s .entry)) (p + 4) 4 ⌝ }
+    ensures { λ r. ⌜ (r ≡ numberAt ByteOrder.LittleEndian 0 (now (s .entry)) p 8) × (r < 256 ^ 8) ⌝ }
 {
     four_here(s, p) + four_here(s, p + 4) * 0x1_0000_0000
 }
 
 // The same bytes in the other order, which is one instruction of the machine's.
 fn turned_two(v: u64) -> u64
-    ensures { λ r. ⌜ (r ≡ turnedTwo v) × (r < 256 ^ 2) ⌝ }
+    ensures { λ r. ⌜ (r ≡ turned 2 v) × (r < 256 ^ 2) ⌝ }
 {
     v % 0x100 * 0x100 + v / 0x100 % 0x100
 }
 
 fn turned_four(v: u64) -> u64
-    ensures { λ r. ⌜ (r ≡ turnedFour v) × (r < 256 ^ 4) ⌝ }
+    ensures { λ r. ⌜ (r ≡ turned 4 v) × (r < 256 ^ 4) ⌝ }
 {
     v % 0x100 * 0x100_0000
         + v / 0x100 % 0x100 * 0x1_0000
@@ -124,9 +126,9 @@ fn turned_four(v: u64) -> u64
 }
 
 fn turned_eight(v: u64) -> u64
-    ensures { λ r. ⌜ (r ≡ turnedEight v) × (r < 256 ^ 8) ⌝ }
+    ensures { λ r. ⌜ (r ≡ turned 8 v) × (r < 256 ^ 8) ⌝ }
 {
-    turned_four(v % 0x1_0000_0000) * 0x1_0000_0000 + turned_four(v / 0x1_0000_0000)
+    turned_four(v) * 0x1_0000_0000 + turned_four(v / 0x1_0000_0000)
 }
 
 fn two_bytes(s: &[u8], order: ByteOrder, p: usize) -> u64
@@ -188,15 +190,21 @@ fn number_here(s: &[u8], order: ByteOrder, at: Cursor, width: usize) -> Number
     }
 }
 
-// Serialization rule 2: a primitive of `width` bytes.
+// Serialization rule 2: a primitive of `width` bytes. Most are there whole, and then one test settles the alignment and the bytes.
 pub fn read_number(s: &[u8], set: Settings, at: Cursor, width: usize) -> Number
     requires { ⌜ (0 < width) × (width ≤ 8) ⌝ }
     ensures { λ r. ⌜ ReadIs (now (s .entry)) set at width r ⌝ }
 {
     let version = set.version;
     let order = set.order;
-    let place = at.align(s, version, width);
-    match place {
+    let q = at.start(s, version, width);
+    if q + width <= s.len() {
+        return Number::Got(
+            from_bytes(s, order, q, width),
+            Cursor::new(q + width, at.origin),
+        );
+    }
+    match at.align(s, version, width) {
         Place::Short(x) => Number::Short(x),
         Place::At(c) => number_here(s, order, c, width),
     }
@@ -226,7 +234,8 @@ pub fn read_float128(s: &[u8], set: Settings, at: Cursor) -> Float128
 {
     let version = set.version;
     let order = set.order;
-    let place = at.align(s, version, 16);
+    let alignment = kinds::align_of(FLOAT128) as usize;
+    let place = at.align(s, version, alignment);
     match place {
         Place::Short(x) => Float128::Short(x),
         Place::At(c) => float128_here(s, order, c),

@@ -2,7 +2,8 @@
 ghost use mathlib.Core.Path.{_≡_};
 ghost use mathlib.Core.Bool.{_||_};
 ghost use lib.ListN.{getD};
-ghost use Rattle.wire.specs.Identifier.{sameBytes, settingsOf};
+ghost use Rattle.wire.specs.Identifier.{settingsOf};
+ghost use Rattle.wire.specs.Code.Strings.{sameBytes};
 
 pub enum ByteOrder {
     BigEndian,

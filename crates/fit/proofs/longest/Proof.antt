@@ -3,7 +3,7 @@ use borrow.Author.Needs.{needs}
 use mathlib.Core.Path.{_≡_}
 use Rattle.book.specs.Places.{listed, typeAt}
 use Rattle.fit.specs.Fit.{memberTypes, linksOf}
-use Rattle.fit.specs.Check.{longestFrom}
+use Rattle.fit.specs.Code.Check.{longestFrom}
 use Rattle.fit.proofs.Measuring.{longest-laws}
 use Rattle.fit.proofs.longest.Statement.{statement}
 use Rattle.fit.proofs.longest.Tie as tie
@@ -20,8 +20,8 @@ kind-at-requires c κs = search (needs, longest-laws)
 element-requires : tie.Need-element-requires Inv-loop μ-loop
 element-requires c κs = search (needs, longest-laws)
 
-standing-requires : tie.Need-standing-requires Inv-loop μ-loop
-standing-requires c κs = search (needs, longest-laws)
+lower-chain-requires : tie.Need-lower-chain-requires Inv-loop μ-loop
+lower-chain-requires c κs = search (needs, longest-laws)
 
 returns : tie.Need-returns Inv-loop μ-loop
 returns c = search (needs, longest-laws)
@@ -38,8 +38,8 @@ loop-holds c = search (needs, longest-laws)
 type-index-requires : tie.Need-type-index-requires Inv-loop μ-loop
 type-index-requires c κs = search (needs, longest-laws)
 
-standing-requires-2 : tie.Need-standing-requires-2 Inv-loop μ-loop
-standing-requires-2 c κs = search (needs, longest-laws)
+lower-chain-requires-2 : tie.Need-lower-chain-requires-2 Inv-loop μ-loop
+lower-chain-requires-2 c κs = search (needs, longest-laws)
 
 greater-requires : tie.Need-greater-requires Inv-loop μ-loop
 greater-requires c κs = search (needs, longest-laws)
@@ -64,13 +64,13 @@ longest-spec =
     μ-loop
     kind-at-requires
     element-requires
-    standing-requires
+    lower-chain-requires
     returns
     returns-2
     members-requires
     loop-holds
     type-index-requires
-    standing-requires-2
+    lower-chain-requires-2
     greater-requires
     after-requires
     loop-less

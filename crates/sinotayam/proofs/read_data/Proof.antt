@@ -1,5 +1,5 @@
 use native.Mathlib.Omega.{arith}
-use Rattle.sinotayam.proofs.Preparing.{judged-few, judged-words, read-judged}
+use Rattle.sinotayam.proofs.Preparing.{own-few, own-words, read-own}
 use borrow.Author.Needs.{needs}
 use Rattle.sinotayam.proofs.read_data.Statement.{statement}
 use Rattle.sinotayam.proofs.read_data.Tie as tie
@@ -17,13 +17,13 @@ judge-into-requires : tie.Need-judge-into-requires
 judge-into-requires c κs = search needs
 
 cast-index : tie.Need-cast-index
-cast-index c = omega (arith, judged-few _ _ (c .before .judge-into .ensures .0))
+cast-index c = omega (arith, own-few _ _ (c .before .judge-into .ensures .0))
 
 array-write-index : tie.Need-array-write-index
 array-write-index c = search needs
 
 slice-aggregate-read-data-prepared : tie.Need-slice-aggregate-read-data-prepared
-slice-aggregate-read-data-prepared c = search (needs, judged-words)
+slice-aggregate-read-data-prepared c = search (needs, own-words)
 
 read-data-prepared-requires : tie.Need-read-data-prepared-requires
 read-data-prepared-requires c κs = search needs
@@ -32,7 +32,7 @@ same-length : tie.Need-same-length
 same-length c = search needs
 
 returns : tie.Need-returns
-returns c = search (needs, read-judged)
+returns c = search (needs, read-own)
 
 pub read-data-spec : {M : Type 1} → statement M
 read-data-spec =

@@ -1,5 +1,5 @@
 -- `fit::clauses::base_supported` meets its contract. Assumes nothing.
-use Rattle.fit.proofs.Asked.{base-is, base-none}
+use Rattle.fit.proofs.ClauseTests.{base-is, base-none}
 use borrow.Author.Needs.{needs}
 use Rattle.fit.proofs.clauses.base_supported.Statement.{statement}
 use Rattle.fit.proofs.clauses.base_supported.Tie as tie

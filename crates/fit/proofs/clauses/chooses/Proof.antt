@@ -1,5 +1,5 @@
 -- `fit::clauses::chooses` meets its contract: bitmasks by the kind that they are stored as, others by their own. Assumes nothing.
-use Rattle.fit.proofs.Asked.{chooses-mask, chooses-plain}
+use Rattle.fit.proofs.ClauseTests.{chooses-mask, chooses-plain}
 use borrow.Author.Needs.{needs}
 use Rattle.fit.proofs.clauses.chooses.Statement.{statement}
 use Rattle.fit.proofs.clauses.chooses.Tie as tie

@@ -1,5 +1,5 @@
 -- `fit::clauses::discriminator_fits` meets its contract: a union's first member. Assumes nothing.
-use Rattle.fit.proofs.Asked.{discriminator-none, discriminator-empty, discriminator-first}
+use Rattle.fit.proofs.ClauseTests.{discriminator-none, discriminator-empty, discriminator-first}
 use borrow.Author.Needs.{needs}
 use Rattle.fit.proofs.clauses.discriminator_fits.Statement.{statement}
 use Rattle.fit.proofs.clauses.discriminator_fits.Tie as tie

@@ -1,5 +1,5 @@
 -- `fit::clauses::element_supported` meets its contract. Assumes nothing.
-use Rattle.fit.proofs.Asked.{element-is, element-none}
+use Rattle.fit.proofs.ClauseTests.{element-is, element-none}
 use borrow.Author.Needs.{needs}
 use Rattle.fit.proofs.clauses.element_supported.Statement.{statement}
 use Rattle.fit.proofs.clauses.element_supported.Tie as tie

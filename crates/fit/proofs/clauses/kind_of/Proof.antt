@@ -1,5 +1,5 @@
 -- `fit::clauses::kind_of` meets its contract: the type at a number's place is the type with that number. Assumes nothing.
-use Rattle.fit.proofs.Asked.{kind-there}
+use Rattle.fit.proofs.ClauseTests.{kind-there}
 use borrow.Author.Needs.{needs}
 use Rattle.fit.proofs.clauses.kind_of.Statement.{statement}
 use Rattle.fit.proofs.clauses.kind_of.Tie as tie

@@ -1,5 +1,5 @@
 -- `fit::clauses::member_supported` meets its contract. Assumes nothing.
-use Rattle.fit.proofs.Asked.{member-is}
+use Rattle.fit.proofs.ClauseTests.{member-is}
 use borrow.Author.Needs.{needs}
 use Rattle.fit.proofs.clauses.member_supported.Statement.{statement}
 use Rattle.fit.proofs.clauses.member_supported.Tie as tie

@@ -4,7 +4,7 @@ use mathlib.Core.Path.{_≡_}
 use Rattle.ground.specs.Choice.{every}
 use Rattle.book.specs.Places.{listed, typeAt, typesBy}
 use Rattle.fit.specs.Fit.{memberSupported, membersSupported}
-use Rattle.fit.proofs.Asked.{members-laws}
+use Rattle.fit.proofs.ClauseTests.{members-laws}
 use Rattle.fit.proofs.clauses.members_supported.Statement.{statement}
 use Rattle.fit.proofs.clauses.members_supported.Tie as tie
 

@@ -16,10 +16,10 @@ new-requires-2 : tie.Need-new-requires-2
 new-requires-2 c κs = search needs
 
 returns : tie.Need-returns
-returns c = search (needs, value1)
+returns c = search (needs, value1, value2)
 
 returns-2 : tie.Need-returns-2
-returns-2 c = search (needs, value2)
+returns-2 c = search (needs, value1, value2)
 
 pub value-at-spec : {M : Type 1} → statement M
 value-at-spec =

@@ -21,14 +21,17 @@ enum-known-second c = search needs
 enum-known-second-2 : tie.Need-enum-known-second-2
 enum-known-second-2 c = search needs
 
+id-requires : tie.Need-id-requires
+id-requires c κs = search needs
+
 returns : tie.Need-returns
-returns c = search (needs, header-no-id)
+returns c = search (needs, header-got, header-no-id, header-no-length)
 
 returns-2 : tie.Need-returns-2
-returns-2 c = search (needs, header-no-length)
+returns-2 c = search (needs, header-got, header-no-id, header-no-length)
 
 returns-3 : tie.Need-returns-3
-returns-3 c = search (needs, header-got)
+returns-3 c = search (needs, header-got, header-no-id, header-no-length)
 
 pub read-header-spec : {M : Type 1} → statement M
 read-header-spec =
@@ -40,6 +43,7 @@ read-header-spec =
     read-number-requires-2
     enum-known-second
     enum-known-second-2
+    id-requires
     returns
     returns-2
     returns-3)

@@ -13,22 +13,22 @@ enum-known-head-2 : tie.Need-enum-known-head-2
 enum-known-head-2 c = search needs
 
 returns : tie.Need-returns
-returns c = search (needs, turn-found-end)
+returns c = search (needs, turn-ended, turn-found, turn-found-end, turn-past, turn-short)
 
 returns-2 : tie.Need-returns-2
-returns-2 c = search (needs, turn-ended)
+returns-2 c = search (needs, turn-ended, turn-found, turn-found-end, turn-past, turn-short)
 
 returns-3 : tie.Need-returns-3
-returns-3 c = search (needs, turn-found)
+returns-3 c = search (needs, turn-ended, turn-found, turn-found-end, turn-past, turn-short)
 
 past-value-requires : tie.Need-past-value-requires
 past-value-requires c κs = search needs
 
 returns-4 : tie.Need-returns-4
-returns-4 c = search (needs, turn-short)
+returns-4 c = search (needs, turn-ended, turn-found, turn-found-end, turn-past, turn-short)
 
 returns-5 : tie.Need-returns-5
-returns-5 c = search (needs, turn-past)
+returns-5 c = search (needs, turn-ended, turn-found, turn-found-end, turn-past, turn-short)
 
 pub turn-spec : {M : Type 1} → statement M
 turn-spec =

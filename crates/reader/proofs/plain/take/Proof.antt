@@ -20,11 +20,11 @@ returns-2 c = search (needs, plain-none)
 kind-of-requires : tie.Need-kind-of-requires
 kind-of-requires c κs = search needs
 
-cast-take : tie.Need-cast-take
-cast-take c = search needs
+cast-value-at : tie.Need-cast-value-at
+cast-value-at c = search needs
 
-take-requires : tie.Need-take-requires
-take-requires c κs = search needs
+value-at-requires : tie.Need-value-at-requires
+value-at-requires c κs = search needs
 
 same-length : tie.Need-same-length
 same-length c = search needs
@@ -41,7 +41,7 @@ take-spec =
     head-there-requires
     returns-2
     kind-of-requires
-    cast-take
-    take-requires
+    cast-value-at
+    value-at-requires
     same-length
     returns-3)

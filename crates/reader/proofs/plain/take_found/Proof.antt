@@ -17,8 +17,8 @@ head-there-requires c κs = is-inside _ _ _ _ (c .before .is-there .ensures) (no
 kind-of-requires : tie.Need-kind-of-requires
 kind-of-requires c κs = search needs
 
-take-found-requires : tie.Need-take-found-requires
-take-found-requires c κs = search needs
+found-value-at-requires : tie.Need-found-value-at-requires
+found-value-at-requires c κs = search needs
 
 same-length : tie.Need-same-length
 same-length c = search needs
@@ -34,6 +34,6 @@ take-found-spec =
     returns
     head-there-requires
     kind-of-requires
-    take-found-requires
+    found-value-at-requires
     same-length
     returns-2)

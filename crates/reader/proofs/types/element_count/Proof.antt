@@ -12,8 +12,8 @@ place-requires c κs = search needs
 kind-at-requires : tie.Need-kind-at-requires
 kind-at-requires c κs = search needs
 
-of-kind-requires : tie.Need-of-kind-requires
-of-kind-requires c κs = search needs
+element-of-requires : tie.Need-element-of-requires
+element-of-requires c κs = search needs
 
 cast-result : tie.Need-cast-result
 cast-result c = search needs
@@ -31,7 +31,7 @@ element-count-spec =
     element-requires
     place-requires
     kind-at-requires
-    of-kind-requires
+    element-of-requires
     cast-result
     div-result
     returns)

@@ -3,11 +3,8 @@ use borrow.Author.Needs.{needs}
 use Rattle.sinotayam.proofs.reading.data_as.Statement.{statement}
 use Rattle.sinotayam.proofs.reading.data_as.Tie as tie
 
-new-requires : tie.Need-new-requires
-new-requires c κs = search needs
-
-as-nested-requires : tie.Need-as-nested-requires
-as-nested-requires c κs = search needs
+top-level-type-requires : tie.Need-top-level-type-requires
+top-level-type-requires c κs = search needs
 
 enum-known-rows : tie.Need-enum-known-rows
 enum-known-rows c = search needs
@@ -52,8 +49,7 @@ pub data-as-spec : {M : Type 1} → statement M
 data-as-spec =
     tie.close
     (tie.spec
-    new-requires
-    as-nested-requires
+    top-level-type-requires
     enum-known-rows
     clear-after-requires
     enum-told

@@ -3,7 +3,8 @@ use borrow.Author.Needs.{needs}
 use mathlib.Core.Path.{_≡_, refl, _∙_}
 use Prim.Native.Nat.{_-_, _*_}
 use lib.ListN.{length, length-set}
-use Rattle.table.specs.Rows.{width, clearedFrom}
+use Rattle.table.specs.Rows.{width}
+use Rattle.table.specs.Code.Rows.{clearedFrom}
 use Rattle.table.proofs.Clearing.{cleared-turn, cleared-end}
 use Rattle.table.proofs.rows.clear_after.Statement.{statement}
 use Rattle.table.proofs.rows.clear_after.Tie as tie

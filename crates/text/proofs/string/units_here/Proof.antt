@@ -27,11 +27,11 @@ returns c = search (needs, units-laws)
 enum-known-unit-2 : tie.Need-enum-known-unit-2 Inv-loop μ-loop
 enum-known-unit-2 c = search (needs, units-laws)
 
-cast-take : tie.Need-cast-take Inv-loop μ-loop
-cast-take c = search (needs, units-laws)
+cast-next-unit : tie.Need-cast-next-unit Inv-loop μ-loop
+cast-next-unit c = search (needs, units-laws)
 
-take-requires : tie.Need-take-requires Inv-loop μ-loop
-take-requires c κs = search (needs, units-laws)
+next-unit-requires : tie.Need-next-unit-requires Inv-loop μ-loop
+next-unit-requires c κs = search (needs, units-laws)
 
 sub-left : tie.Need-sub-left Inv-loop μ-loop
 sub-left c = search (needs, units-laws)
@@ -71,8 +71,8 @@ units-here-spec =
     enum-known-unit
     returns
     enum-known-unit-2
-    cast-take
-    take-requires
+    cast-next-unit
+    next-unit-requires
     sub-left
     loop-less
     loop-again

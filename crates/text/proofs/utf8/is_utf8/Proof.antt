@@ -5,7 +5,7 @@ use mathlib.Core.List.{[]}
 use lib.ListN.{length, drop}
 use borrow.Author.Needs.{needs}
 use Rattle.text.specs.Unicode.{restGood, table37}
-use Rattle.text.specs.Step.{wants, wantsOf}
+use Rattle.text.specs.Code.Step.{wants, wantsOf}
 use Rattle.text.proofs.Bytes.{ascii, turn-next, turn-bad, at-end}
 use Rattle.text.proofs.utf8.is_utf8.Statement.{statement}
 use Rattle.text.proofs.utf8.is_utf8.Tie as tie
@@ -32,11 +32,11 @@ next-place-requires c κs = search needs
 returns-2 : tie.Need-returns-2 Inv-loop μ-loop
 returns-2 c = at-end _ _ _ _ (c .before .if2 .taken) ∙ c .before .before .next-place .ensures .same ∙ c .before .before .before .loop .inv .1
 
-shared-slice-read-take : tie.Need-shared-slice-read-take Inv-loop μ-loop
-shared-slice-read-take c = search needs
+shared-slice-read-next-byte : tie.Need-shared-slice-read-next-byte Inv-loop μ-loop
+shared-slice-read-next-byte c = search needs
 
-take-requires : tie.Need-take-requires Inv-loop μ-loop
-take-requires c κs = search needs
+next-byte-requires : tie.Need-next-byte-requires Inv-loop μ-loop
+next-byte-requires c κs = search needs
 
 enum-known-next : tie.Need-enum-known-next Inv-loop μ-loop
 enum-known-next c = search needs
@@ -45,7 +45,7 @@ enum-told : tie.Need-enum-told Inv-loop μ-loop
 enum-told c = search needs
 
 returns-3 : tie.Need-returns-3 Inv-loop μ-loop
-returns-3 c = let t = c .before .before .take in
+returns-3 c = let t = c .before .before .next-byte in
     let l = c .before .before .before .before in
     turn-bad _ _ (l .before .before .loop .want) (t .result) (l .if2 .left) (t .ensures) (c .enum-told .given .1) ∙ l .before .next-place .ensures .same ∙ l .before .before .loop .inv .1
 
@@ -56,7 +56,7 @@ loop-less : tie.Need-loop-less Inv-loop μ-loop
 loop-less c = search needs
 
 loop-again : tie.Need-loop-again Inv-loop μ-loop
-loop-again c = let t = c .before .before .before .take in
+loop-again c = let t = c .before .before .before .next-byte in
     let l = c .before .before .before .before .before in (
       search needs,
       turn-next _ _ (l .before .before .loop .want) (t .result) (l .if2 .left) (t .ensures) _ (c .before .next .given .1) ∙ l .before .next-place .ensures .same
@@ -74,8 +74,8 @@ is-utf8-spec =
     loop-holds
     next-place-requires
     returns-2
-    shared-slice-read-take
-    take-requires
+    shared-slice-read-next-byte
+    next-byte-requires
     enum-known-next
     enum-told
     returns-3

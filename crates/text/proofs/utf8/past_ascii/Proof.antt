@@ -3,7 +3,7 @@ use Prim.Native.Nat.{_-_}
 use mathlib.Core.List.{[]}
 use lib.ListN.{length}
 use borrow.Author.Needs.{needs}
-use Rattle.text.specs.Step.{Passed}
+use Rattle.text.specs.Code.Step.{Passed}
 use Rattle.text.proofs.Bytes.{byte-passed}
 use Rattle.text.proofs.utf8.past_ascii.Statement.{statement}
 use Rattle.text.proofs.utf8.past_ascii.Tie as tie

@@ -4,7 +4,7 @@ use native.Mathlib.Omega.{arith}
 use mathlib.Core.List.{[]}
 use lib.ListN.{length}
 use borrow.Author.Needs.{needs}
-use Rattle.text.specs.Step.{Passed}
+use Rattle.text.specs.Code.Step.{Passed}
 use Rattle.text.proofs.Bytes.{stays, block-passed}
 use Rattle.text.proofs.utf8.past_blocks.Statement.{statement}
 use Rattle.text.proofs.utf8.past_blocks.Tie as tie

@@ -22,7 +22,7 @@ same-length : tie.Need-same-length
 same-length c = search needs
 
 returns-2 : tie.Need-returns-2
-returns-2 c = search (needs, block-short, block-at)
+returns-2 c = search (needs, block-at)
 
 pub block-spec : {M : Type 1} → statement M
 block-spec =

@@ -14,11 +14,17 @@ same-length c = search needs
 returns : tie.Need-returns
 returns c = search (needs, list-full, list-rows)
 
-of-kind-requires : tie.Need-of-kind-requires
-of-kind-requires c κs = search needs
+stored-of-requires : tie.Need-stored-of-requires
+stored-of-requires c κs = search needs
 
-cast-t16 : tie.Need-cast-t16
-cast-t16 c = search needs
+cast-t15 : tie.Need-cast-t15
+cast-t15 c = search needs
+
+stored-of-requires-2 : tie.Need-stored-of-requires-2
+stored-of-requires-2 c κs = search needs
+
+cast-t17 : tie.Need-cast-t17
+cast-t17 c = search needs
 
 put-row-requires : tie.Need-put-row-requires
 put-row-requires c κs = search (needs, full-fits)
@@ -33,7 +39,7 @@ same-length-2 : tie.Need-same-length-2
 same-length-2 c = search needs
 
 returns-2 : tie.Need-returns-2
-returns-2 c = search (needs, list-full, list-rows)
+returns-2 c = search (needs, list-rows)
 
 pub list-spec : {M : Type 1} → statement M
 list-spec =
@@ -42,8 +48,10 @@ list-spec =
     is-full-requires
     same-length
     returns
-    of-kind-requires
-    cast-t16
+    stored-of-requires
+    cast-t15
+    stored-of-requires-2
+    cast-t17
     put-row-requires
     add-elements
     elements-requires

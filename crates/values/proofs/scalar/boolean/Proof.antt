@@ -9,6 +9,12 @@ read-boolean-requires c κs = search needs
 enum-known-v : tie.Need-enum-known-v
 enum-known-v c = search needs
 
+stored-of-requires : tie.Need-stored-of-requires
+stored-of-requires c κs = search needs
+
+cast-t14 : tie.Need-cast-t14
+cast-t14 c = search needs
+
 bool-word-requires : tie.Need-bool-word-requires
 bool-word-requires c κs = search needs
 
@@ -25,13 +31,13 @@ same-length : tie.Need-same-length
 same-length c = search needs
 
 returns : tie.Need-returns
-returns c = search (needs, boolean-row, boolean-bad, boolean-short)
+returns c = search (needs, boolean-row)
 
 returns-2 : tie.Need-returns-2
-returns-2 c = search (needs, boolean-row, boolean-bad, boolean-short)
+returns-2 c = search (needs, boolean-row, boolean-bad)
 
 returns-3 : tie.Need-returns-3
-returns-3 c = search (needs, boolean-row, boolean-bad, boolean-short)
+returns-3 c = search (needs, boolean-row, boolean-short)
 
 pub boolean-spec : {M : Type 1} → statement M
 boolean-spec =
@@ -39,6 +45,8 @@ boolean-spec =
     (tie.spec
     read-boolean-requires
     enum-known-v
+    stored-of-requires
+    cast-t14
     bool-word-requires
     give-row-requires
     enum-told

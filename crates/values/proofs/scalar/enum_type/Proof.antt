@@ -10,7 +10,7 @@ same-length : tie.Need-same-length
 same-length c = search needs
 
 returns : tie.Need-returns
-returns c = search (needs, enum-value, enum-none)
+returns c = search (needs, enum-value)
 
 returns-2 : tie.Need-returns-2
 returns-2 c = search (needs, enum-value, enum-none)

@@ -9,6 +9,12 @@ read-float128-requires c κs = search needs
 enum-known-low : tie.Need-enum-known-low
 enum-known-low c = search needs
 
+stored-of-requires : tie.Need-stored-of-requires
+stored-of-requires c κs = search needs
+
+cast-t15 : tie.Need-cast-t15
+cast-t15 c = search needs
+
 give-row-requires : tie.Need-give-row-requires
 give-row-requires c κs = search needs
 
@@ -19,7 +25,7 @@ same-length : tie.Need-same-length
 same-length c = search needs
 
 returns : tie.Need-returns
-returns c = search (needs, float128-row, float128-short)
+returns c = search (needs, float128-row)
 
 returns-2 : tie.Need-returns-2
 returns-2 c = search (needs, float128-row, float128-short)
@@ -30,6 +36,8 @@ float128-spec =
     (tie.spec
     read-float128-requires
     enum-known-low
+    stored-of-requires
+    cast-t15
     give-row-requires
     enum-known-x
     same-length

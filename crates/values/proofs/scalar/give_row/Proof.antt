@@ -11,19 +11,19 @@ same-length : tie.Need-same-length
 same-length c = search needs
 
 returns : tie.Need-returns
-returns c = search (needs, full-fits, row-next, row-full, row-given)
+returns c = search (needs, row-full)
 
 put-row-requires : tie.Need-put-row-requires
-put-row-requires c κs = search (needs, full-fits, row-next, row-full, row-given)
+put-row-requires c κs = search (needs, full-fits)
 
 add-t12 : tie.Need-add-t12
-add-t12 c = search (needs, full-fits, row-next, row-full, row-given)
+add-t12 c = search (needs, row-next)
 
 same-length-2 : tie.Need-same-length-2
 same-length-2 c = search needs
 
 returns-2 : tie.Need-returns-2
-returns-2 c = search (needs, full-fits, row-next, row-full, row-given)
+returns-2 c = search (needs, row-given)
 
 pub give-row-spec : {M : Type 1} → statement M
 give-row-spec =

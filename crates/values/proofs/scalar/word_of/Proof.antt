@@ -10,7 +10,7 @@ extend-requires : tie.Need-extend-requires
 extend-requires c κs = search needs
 
 returns : tie.Need-returns
-returns c = search (needs, word-signed, word-plain)
+returns c = search (needs, word-signed)
 
 returns-2 : tie.Need-returns-2
 returns-2 c = search (needs, word-signed, word-plain)

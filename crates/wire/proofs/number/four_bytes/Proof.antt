@@ -1,4 +1,4 @@
-use Rattle.wire.proofs.Digits.{turned-four, same-four}
+use Rattle.wire.proofs.Digits.{in-order, turned-order}
 use borrow.Author.Needs.{needs}
 use Rattle.wire.proofs.number.four_bytes.Statement.{statement}
 use Rattle.wire.proofs.number.four_bytes.Tie as tie
@@ -16,10 +16,10 @@ enum-told-2 : tie.Need-enum-told-2
 enum-told-2 c = search needs
 
 returns : tie.Need-returns
-returns c = search (needs, turned-four, same-four)
+returns c = (turned-order _ 4 _ _ _ (c .before .before .before .four-here .ensures .0) (search needs) (λ k. c .before .before .before .before .shared-slice-known .given k .fits) _ (c .turned-four .ensures .0), c .turned-four .ensures .1)
 
 returns-2 : tie.Need-returns-2
-returns-2 c = search (needs, turned-four, same-four)
+returns-2 c = search (needs, in-order)
 
 pub four-bytes-spec : {M : Type 1} → statement M
 four-bytes-spec =

@@ -1,4 +1,4 @@
-use Rattle.wire.proofs.Digits.{le-four, four-bytes}
+use Rattle.wire.proofs.Digits.{le-four}
 use borrow.Author.Needs.{needs}
 use Rattle.wire.proofs.number.four_here.Statement.{statement}
 use Rattle.wire.proofs.number.four_here.Tie as tie
@@ -28,7 +28,7 @@ four-requires : tie.Need-four-requires
 four-requires c κs = search needs
 
 returns : tie.Need-returns
-returns c = (search (needs, le-four), search needs, λ k h. search (needs, four-bytes))
+returns c = search (needs, le-four)
 
 pub four-here-spec : {M : Type 1} → statement M
 four-here-spec =

@@ -1,5 +1,5 @@
+use Rattle.wire.proofs.Digits.{turned-joined}
 use borrow.Author.Needs.{needs}
-use Rattle.wire.specs.Number.{turnedEight}
 use Rattle.wire.proofs.number.turned_eight.Statement.{statement}
 use Rattle.wire.proofs.number.turned_eight.Tie as tie
 
@@ -16,8 +16,7 @@ add-result : tie.Need-add-result
 add-result c = search needs
 
 returns : tie.Need-returns
-unfolding turnedEight
-returns c = search needs
+returns c = (turned-joined 4 4 _ _ _ _ (c .before .turned-four .ensures .0) (c .turned-four2 .ensures .0) (search needs), search needs)
 
 pub turned-eight-spec : {M : Type 1} → statement M
 turned-eight-spec =

@@ -1,5 +1,5 @@
+use Rattle.wire.proofs.Digits.{turned-four}
 use borrow.Author.Needs.{needs}
-use Rattle.wire.specs.Number.{turnedFour}
 use Rattle.wire.proofs.number.turned_four.Statement.{statement}
 use Rattle.wire.proofs.number.turned_four.Tie as tie
 
@@ -22,8 +22,7 @@ add-result-3 : tie.Need-add-result-3
 add-result-3 c = search needs
 
 returns : tie.Need-returns
-unfolding turnedFour
-returns c = search needs
+returns c = (turned-four _, search needs)
 
 pub turned-four-spec : {M : Type 1} → statement M
 turned-four-spec =

@@ -1,5 +1,5 @@
+use Rattle.wire.specs.Code.Reads.{turned}
 use borrow.Author.Needs.{needs}
-use Rattle.wire.specs.Number.{turnedTwo}
 use Rattle.wire.proofs.number.turned_two.Statement.{statement}
 use Rattle.wire.proofs.number.turned_two.Tie as tie
 
@@ -10,7 +10,7 @@ add-result : tie.Need-add-result
 add-result c = search needs
 
 returns : tie.Need-returns
-unfolding turnedTwo
+unfolding turned
 returns c = search needs
 
 pub turned-two-spec : {M : Type 1} → statement M

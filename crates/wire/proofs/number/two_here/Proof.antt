@@ -1,4 +1,4 @@
-use Rattle.wire.proofs.Digits.{le-two, two-bytes}
+use Rattle.wire.proofs.Digits.{le-two}
 use borrow.Author.Needs.{needs}
 use Rattle.wire.proofs.number.two_here.Statement.{statement}
 use Rattle.wire.proofs.number.two_here.Tie as tie
@@ -16,7 +16,7 @@ two-requires : tie.Need-two-requires
 two-requires c κs = search needs
 
 returns : tie.Need-returns
-returns c = search (needs, le-two, two-bytes)
+returns c = search (needs, le-two)
 
 pub two-here-spec : {M : Type 1} → statement M
 two-here-spec =

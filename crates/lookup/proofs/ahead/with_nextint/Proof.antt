@@ -1,0 +1,74 @@
+use Rattle.lookup.proofs.Aheads.{ahead-long, ahead-none}
+use Rattle.lookup.proofs.Xcdr2Turns.{times-word, times-fits}
+use borrow.Author.Needs.{needs}
+use Rattle.lookup.proofs.ahead.with_nextint.Statement.{statement}
+use Rattle.lookup.proofs.ahead.with_nextint.Tie as tie
+
+add-head : tie.Need-add-head
+add-head c = search needs
+
+sub-if1 : tie.Need-sub-if1
+sub-if1 c = search needs
+
+no-header-requires : tie.Need-no-header-requires
+no-header-requires c κs = search needs
+
+returns : tie.Need-returns
+returns c = search (needs, ahead-long, ahead-none, times-word, times-fits)
+
+lc-requires : tie.Need-lc-requires
+lc-requires c κs = search needs
+
+from-bytes-requires : tie.Need-from-bytes-requires
+from-bytes-requires c κs = search needs
+
+unit-requires : tie.Need-unit-requires
+unit-requires c κs = search needs
+
+mul-length : tie.Need-mul-length
+mul-length c = search (needs, ahead-long, ahead-none, times-word, times-fits)
+
+no-header-requires-2 : tie.Need-no-header-requires-2
+no-header-requires-2 c κs = search needs
+
+returns-2 : tie.Need-returns-2
+returns-2 c = search (needs, ahead-long, ahead-none, times-word, times-fits)
+
+add-body : tie.Need-add-body
+add-body c = search needs
+
+next-header-requires : tie.Need-next-header-requires
+next-header-requires c κs = search (needs, ahead-long, ahead-none, times-word, times-fits)
+
+step-back-requires : tie.Need-step-back-requires
+step-back-requires c κs = search needs
+
+sub-ahead-of : tie.Need-sub-ahead-of
+sub-ahead-of c = search needs
+
+ahead-of-requires : tie.Need-ahead-of-requires
+ahead-of-requires c κs = search needs
+
+returns-3 : tie.Need-returns-3
+returns-3 c = search (needs, ahead-long, ahead-none, times-word, times-fits)
+
+pub with-nextint-spec : {M : Type 1} → statement M
+with-nextint-spec =
+    tie.close
+    (tie.spec
+    add-head
+    sub-if1
+    no-header-requires
+    returns
+    lc-requires
+    from-bytes-requires
+    unit-requires
+    mul-length
+    no-header-requires-2
+    returns-2
+    add-body
+    next-header-requires
+    step-back-requires
+    sub-ahead-of
+    ahead-of-requires
+    returns-3)

@@ -1,0 +1,195 @@
+// Structures: the members of one, in order or each by its lookup.
+ghost use mathlib.Core.Path.{_≡_};
+ghost use mathlib.Core.List.{[]};
+ghost use Rattle.book.specs.Places.{memberAt, typeAt};
+ghost use Rattle.table.specs.Rows.{room};
+ghost use Rattle.table.specs.Code.Outcome.{Done};
+ghost use Rattle.wire.specs.Place.{alignTo};
+ghost use Rattle.lookup.specs.Code.Ahead.{TrueHint};
+ghost use Rattle.reader.specs.Code.Cycle.{fmembersIn, mmembersIn, foundIn};
+use crate::as_nested;
+use crate::member::fmember;
+use crate::member::found;
+use crate::member::mmember;
+use crate::plain;
+use crate::types;
+use book::index::place;
+use book::member::after;
+use book::member::id;
+use book::member::member_count;
+use book::member::members;
+use book::member::type_index;
+use lookup::ahead::Hint;
+use lookup::ahead::Start;
+use lookup::ahead::hint_after;
+use lookup::ahead::start_at;
+use lookup::ahead::value_at;
+use table::out::Out;
+use wire::cursor::Cursor;
+use wire::cursor::Place;
+use wire::settings::Settings;
+
+// Serialization rule 17: the members of a Final or Appendable structure. Too few bytes may end it as read.
+pub fn fstruct(
+    book: &[u8],
+    index: &[u32],
+    s: &[u8],
+    set: Settings,
+    t: &mut [u64],
+    at: usize,
+    c: Cursor,
+    n: usize,
+    depth: usize,
+) -> Out
+    ensures { λ r. ⌜ Done (fmembersIn (now (book .entry)) (now (index .entry)) (now (s .entry)) set depth (typeAt (now (book .entry)) at) c (room (now (t .entry)) n)) n (now (t .entry)) (now (t .exit)) r ⌝ }
+{
+    let mut ms = members(book, at);
+    let mut pos = c.pos;
+    let mut origin = c.origin;
+    let mut m = n;
+    while 0 < ms.left {
+        let p = ms.at;
+        let past = plain::take(book, index, s, set, t, p, Cursor::new(pos, origin), m);
+        if 0 < past {
+            pos = past;
+            m += 1;
+            ms = after(book, ms);
+            continue;
+        }
+        match fmember(
+            book,
+            index,
+            s,
+            set,
+            t,
+            p,
+            Cursor::new(pos, origin),
+            m,
+            depth,
+        ) {
+            Out::Read(e, k) => {
+                pos = e.pos;
+                origin = e.origin;
+                m = k;
+            }
+            Out::Short(x) => {
+                if types::absorbs(book, at, p) {
+                    let reached = x.at;
+                    return Out::Read(reached, m);
+                }
+                return Out::Short(x);
+            }
+            Out::Refused(why) => {
+                return Out::Refused(why);
+            }
+        }
+        ms = after(book, ms);
+    }
+    Out::Read(Cursor::new(pos, origin), m)
+}
+
+// Serialization rules 21 and 23: the members of a Mutable structure, each by its lookup, and its end. Every lookup comes back to where the
+// first one's alignment leads.
+pub fn mstruct(
+    book: &[u8],
+    index: &[u32],
+    s: &[u8],
+    set: Settings,
+    t: &mut [u64],
+    at: usize,
+    end: usize,
+    c: Cursor,
+    n: usize,
+    depth: usize,
+) -> Out
+    ensures { λ r. ⌜ Done (mmembersIn (now (book .entry)) (now (index .entry)) (now (s .entry)) set depth (typeAt (now (book .entry)) at) end c (room (now (t .entry)) n)) n (now (t .entry)) (now (t .exit)) r ⌝ }
+{
+    match start_at(s, set, 0 < member_count(book, at), c) {
+        Start::Short(x) => Out::Short(x),
+        Start::From(back, h) => mmembers(book, index, s, set, t, at, end, back, h, n, depth),
+    }
+}
+
+// The members from there on. Where they stand in the order of their ids, the next header is the one that is wanted.
+pub fn mmembers(
+    book: &[u8],
+    index: &[u32],
+    s: &[u8],
+    set: Settings,
+    t: &mut [u64],
+    at: usize,
+    end: usize,
+    back: Cursor,
+    hint: Hint,
+    n: usize,
+    depth: usize,
+) -> Out
+    requires { ⌜ TrueHint (now s) set back (back .origin) hint × ((typeAt (now book) at .members ≡ [] → ⊥) → alignTo (now s) (set .version) back 4 ≡ Place.At back) ⌝ }
+    ensures { λ r. ⌜ Done (mmembersIn (now (book .entry)) (now (index .entry)) (now (s .entry)) set depth (typeAt (now (book .entry)) at) end back (room (now (t .entry)) n)) n (now (t .entry)) (now (t .exit)) r ⌝ }
+{
+    let version = set.version;
+    let origin = back.origin;
+    let mut ms = members(book, at);
+    let mut h = hint;
+    let mut m = n;
+    while 0 < ms.left {
+        let p = ms.at;
+        let ahead = plain::ahead(book, s, set, p, h, origin);
+        let v = ahead.value;
+        if 0 < v {
+            let wanted = id(book, p);
+            let c = value_at(version, v, origin);
+            h = hint_after(ahead, wanted);
+            let past = plain::take_found(book, index, s, set, t, p, wanted as u64, c, m);
+            if 0 < past {
+                m += 1;
+                ms = after(book, ms);
+                continue;
+            }
+            let size = ahead.length;
+            match found_ahead(book, index, s, set, t, p, wanted as u64, size, c, m, depth) {
+                Out::Read(_, k) => {
+                    m = k;
+                    ms = after(book, ms);
+                }
+                Out::Short(x) => return Out::Short(x.back_to(back)),
+                Out::Refused(k) => return Out::Refused(k),
+            }
+        } else {
+            match mmember(book, index, s, set, t, p, back, m, depth) {
+                Out::Read(_, k) => {
+                    m = k;
+                    ms = after(book, ms);
+                }
+                Out::Short(x) => return Out::Short(x),
+                Out::Refused(k) => return Out::Refused(k),
+            }
+        }
+    }
+    types::ending(s, set, end, back, h, m)
+}
+
+// The value of a member whose header stood where the hint says, as `found` reads it. A value that is opened is opened from here: the
+// compiler takes this into the loop, where nothing else calls it.
+pub fn found_ahead(
+    book: &[u8],
+    index: &[u32],
+    s: &[u8],
+    set: Settings,
+    t: &mut [u64],
+    p: usize,
+    i: u64,
+    size: u64,
+    c: Cursor,
+    n: usize,
+    depth: usize,
+) -> Out
+    requires { ⌜ i ≡ memberAt (now book) p .id ⌝ }
+    ensures { λ r. ⌜ Done (foundIn (now (book .entry)) (now (index .entry)) (now (s .entry)) set depth (memberAt (now (book .entry)) p) size c (room (now (t .entry)) n)) n (now (t .entry)) (now (t .exit)) r ⌝ }
+{
+    let ty = type_index(book, p);
+    if kinds::opens(types::kind_at(book, place(book, index, ty))) {
+        return as_nested(book, index, s, set, t, ty, i, 1, c, n, depth);
+    }
+    found(book, index, s, set, t, p, size, c, n, depth)
+}

@@ -1,0 +1,4 @@
+pub mod KindTests
+pub mod Walking
+pub mod Flat
+mod Examples

@@ -1,0 +1,4 @@
+pub mod Range
+pub mod Shape
+pub mod Walk
+pub mod Flat

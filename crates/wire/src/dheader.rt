@@ -1,0 +1,50 @@
+// The DHEADER of XCDR2: where what follows it begins and ends.
+ghost use mathlib.Core.Path.{_≡_};
+ghost use Rattle.wire.specs.Dheader.{dheaderAt, contentsAt};
+use crate::cursor::Cursor;
+use crate::cursor::Shortage;
+use crate::number::Number;
+use crate::number::from_bytes;
+use crate::number::read_number;
+use crate::settings::Settings;
+use crate::settings::Version;
+
+pub enum Contents {
+    // Where they begin, and where they end, which may be past the end of the data.
+    Between(Cursor, usize),
+    Short(Shortage),
+}
+
+// The sum cannot wrap: the cursor is inside the data, and the value is a u32. Most are there whole.
+fn dheader(s: &[u8], set: Settings, at: Cursor) -> Contents
+    ensures { λ r. ⌜ r ≡ dheaderAt (now (s .entry)) set at ⌝ }
+{
+    let version = set.version;
+    let order = set.order;
+    let q = at.start(s, version, 4);
+    if q + 4 <= s.len() {
+        let n = from_bytes(s, order, q, 4);
+        return Contents::Between(Cursor::new(q + 4, at.origin), q + 4 + (n as usize));
+    }
+    match read_number(s, set, at, 4) {
+        Number::Short(x) => Contents::Short(x),
+        Number::Got(n, c) => {
+            let pos = c.pos;
+            Contents::Between(c, pos + (n as usize))
+        }
+    }
+}
+
+// The contents of a value that may have a DHEADER before it. XCDR1 has none.
+pub fn contents_at(s: &[u8], set: Settings, delimited: bool, at: Cursor) -> Contents
+    ensures { λ r. ⌜ r ≡ contentsAt (now (s .entry)) set delimited at ⌝ }
+{
+    let version = set.version;
+    if delimited {
+        return match version {
+            Version::Xcdr1 => Contents::Between(at, s.len()),
+            Version::Xcdr2 => dheader(s, set, at),
+        };
+    }
+    Contents::Between(at, s.len())
+}
