@@ -27,6 +27,7 @@ use lookup::ahead::value_at;
 use table::out::Out;
 use wire::cursor::Cursor;
 use wire::cursor::Place;
+use wire::dheader::cut;
 use wire::settings::Settings;
 
 // Serialization rule 17: the members of a Final or Appendable structure. Too few bytes may end it as read.
@@ -140,14 +141,27 @@ pub fn mmembers(
             let wanted = id(book, p);
             let c = value_at(version, v, origin);
             h = hint_after(ahead, wanted);
-            let past = plain::take_found(book, index, s, set, t, p, wanted as u64, c, m);
+            let size = ahead.length;
+            let own = cut(s, set, v, size);
+            let past = plain::take_found(book, index, own, set, t, p, wanted as u64, c, m);
             if 0 < past {
                 m += 1;
                 ms = after(book, ms);
                 continue;
             }
-            let size = ahead.length;
-            match found_ahead(book, index, s, set, t, p, wanted as u64, size, c, m, depth) {
+            match found_ahead(
+                book,
+                index,
+                own,
+                set,
+                t,
+                p,
+                wanted as u64,
+                size,
+                c,
+                m,
+                depth,
+            ) {
                 Out::Read(_, k) => {
                     m = k;
                     ms = after(book, ms);
