@@ -76,5 +76,5 @@ pub fn cut<'a>(s: &'a [u8], set: Settings, from: usize, length: u64) -> &'a [u8]
         return s;
     }
     let end = from + (length as usize);
-    &s[..end]
+    &s[0..end]
 }
