@@ -56,14 +56,8 @@ pub fn step_back(mode: Mode, lc: u64) -> usize
     ensures { λ r. ⌜ (r ≡ stepBack mode lc) × (r ≤ 4) ⌝ }
 {
     match mode {
-        Mode::Crate => match lc {
-            5 => 4,
-            _ => 0,
-        },
-        Mode::Standard => match lc {
-            5..=7 => 4,
-            _ => 0,
-        },
+        Mode::Crate => { if lc == 5 { 4 } else { 0 } }
+        Mode::Standard => { if ground::in_range(lc, 5, 7) { 4 } else { 0 } }
     }
 }
 
