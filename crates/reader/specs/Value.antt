@@ -16,7 +16,7 @@ use Rattle.table.specs.Rows.{row}
 use Rattle.table.specs.Outcome.{Outcome, read, short, refused, roomFor, prepend, andThen}
 use Rattle.values.specs.Scalar.{scalarOf}
 use Rattle.values.specs.List.{primitivesOf, bitmasksOrTextsOf}
-use Rattle.values.specs.Header.{countAt}
+use Rattle.values.specs.Count.{countAt}
 
 -- how a structure, enum or union is opened: the data that it is read from, its type's number, its id, the place, and the rows there is room for
 abbrev pub Nest : Type 0

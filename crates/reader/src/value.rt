@@ -21,7 +21,7 @@ use table::out::Refusal;
 use table::rows::Row;
 use table::rows::is_full;
 use table::rows::put_row;
-use values::header::count_at;
+use values::count::count_at;
 use values::list::bitmasks_or_texts;
 use values::list::primitives;
 use values::scalar::scalar;

@@ -1,6 +1,6 @@
 // How many elements a list has.
 ghost use mathlib.Core.Path.{_≡_};
-ghost use Rattle.values.specs.Header.{countAt};
+ghost use Rattle.values.specs.Count.{countAt};
 use wire::cursor::Cursor;
 use wire::number::Number;
 use wire::number::read_number;
