@@ -37,6 +37,15 @@ isStructure t = eqb (t .kind) 22
 unfoldable pub isDelimited : BookType → Bool
 isDelimited t = among (1 ∷ 2 ∷ []) (t .extensibility)
 
+-- a Mutable union's DHEADER, in the crate's mode alone: "may fail unheard"
+unfoldable pub mayFailUnheard : Settings → BookType → Bool
+mayFailUnheard set t = both (not (keepsEnds set)) (both (isMutable t) (not (isStructure t)))
+
+-- "the structure then stands at its end, the union does not"; where ends are kept, order 1: "Appendable and Mutable structures and unions end there
+-- and unknown members are passed over"
+unfoldable pub hasEnding : Settings → BookType → Bool
+hasEnding set t = pick (keepsEnds set) (isDelimited t) (both (isMutable t) (isStructure t))
+
 module _ (s : List ℕ) (set : Settings) where
   -- "a Mutable union's DHEADER may fail unheard"; "Refusals keep the position reached."
   unfoldable pub unheard : Contents → Contents
@@ -49,13 +58,9 @@ module _ (s : List ℕ) (set : Settings) where
   unheardIf true given = unheard given
   unheardIf false given = given
 
-  -- a Mutable union, in the crate's mode alone
-  unfoldable pub mayFailUnheard : BookType → Bool
-  mayFailUnheard t = both (not (keepsEnds set)) (both (isMutable t) (not (isStructure t)))
-
   -- what begins it, and where its members then stand
   unfoldable pub beginningOf : BookType → Cursor → Contents
-  beginningOf t c = unheardIf (mayFailUnheard t) (contentsAt s set (isDelimited t) c)
+  beginningOf t c = unheardIf (mayFailUnheard set t) (contentsAt s set (isDelimited t) c)
 
   -- by the version: "A Mutable structure then looks for 0x3F02 itself", and in XCDR2 "then stands at its end"
   unfoldable pub endingBy : Version → ℕ → Cursor → Outcome
@@ -67,14 +72,9 @@ module _ (s : List ℕ) (set : Settings) where
   endingIf true end c = endingBy (set .version) end c
   endingIf false end c = read c []
 
-  -- "the structure then stands at its end, the union does not"; where ends are kept, order 1: "Appendable and Mutable structures and unions end there
-  -- and unknown members are passed over"
-  unfoldable pub hasEnding : BookType → Bool
-  hasEnding t = pick (keepsEnds set) (isDelimited t) (both (isMutable t) (isStructure t))
-
   -- what ends it
   unfoldable pub endingOf : BookType → ℕ → Cursor → Outcome
-  endingOf t end c = endingIf (hasEnding t) end c
+  endingOf t end c = endingIf (hasEnding set t) end c
 
 module _ (types : List BookType) (s : List ℕ) (set : Settings) (nest : Nest) where
   -- the members of a structure, Mutable or not, and those of a union

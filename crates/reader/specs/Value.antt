@@ -59,25 +59,25 @@ module _ (types : List BookType) (s : List ℕ) (set : Settings) (nest : Nest) w
       afterNumber short (countAt s set (isSequence t) (t .bound) c)
       (λ count d. elementsOf (t .element) id count d room)
 
-module _ (types : List BookType) (set : Settings) where
-  -- "Lists of non-primitives .. have a DHEADER in XCDR2; arrays too."
-  unfoldable pub hasDheader : BookType → Bool
-  hasDheader t = not (primitiveElement types t)
+-- "Lists of non-primitives .. have a DHEADER in XCDR2; arrays too."
+unfoldable pub hasDheader : List BookType → BookType → Bool
+hasDheader types t = not (primitiveElement types t)
 
-  -- nothing is written between the last element and the end that a DHEADER tells (DDS-XTypes 1.3, 7.4.3.5.3, rules 9 and 12): where ends are kept, a
-  -- list that does not end exactly there is 2
-  unfoldable pub listEndIf : Bool → ℕ → Cursor → Outcome
-  listEndIf false end c = read c []
-  listEndIf true end c = pick (eqb (c .pos) end) (read c []) (refused InvalidData)
+-- nothing is written between the last element and the end that a DHEADER tells (DDS-XTypes 1.3, 7.4.3.5.3, rules 9 and 12): a list that is held to it
+-- and does not end exactly there is 2
+unfoldable pub listEndIf : Bool → ℕ → Cursor → Outcome
+listEndIf false end c = read c []
+listEndIf true end c = pick (eqb (c .pos) end) (read c []) (refused InvalidData)
 
-  unfoldable pub listEnd : BookType → ℕ → Cursor → Outcome
-  listEnd t end c = listEndIf (both (keepsEnds set) (hasDheader t)) end c
+-- what ends a list: where ends are kept, its DHEADER's
+unfoldable pub listEnd : List BookType → Settings → BookType → ℕ → Cursor → Outcome
+listEnd types set t end c = listEndIf (both (keepsEnds set) (hasDheader types t)) end c
 
 module _ (types : List BookType) (s : List ℕ) (set : Settings) (nest : Nest) where
   -- a sequence or an array: what begins it, its elements, and what ends it
   unfoldable pub listValue : BookType → ℕ → Cursor → ℕ → Outcome
   listValue t id c room =
-      afterContents short (refused InvalidData) (contentsAt s set (hasDheader types set t) c)
+      afterContents short (refused InvalidData) (contentsAt s set (hasDheader types t) c)
       (λ d end. andThen (countedOf types (cutAt set s end) set nest t id d room) (λ e used. listEnd types set t end e))
 
   -- a value, by its type. "A NONE member stores nothing." "11: member kinds 15, 18, 20, 24, 27"

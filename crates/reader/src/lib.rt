@@ -4,7 +4,11 @@ ghost use Rattle.book.specs.Places.{typeAt, typesBy};
 ghost use Rattle.table.specs.Rows.{room};
 ghost use Rattle.table.specs.Code.Outcome.{Done};
 ghost use Rattle.reader.specs.Nested.{reading};
-ghost use Rattle.reader.specs.Code.Cycle.{runIn, bodyIn};
+ghost use Rattle.reader.specs.Code.Cycle.{runIn, membersIn, bodyIn};
+ghost use Rattle.reader.specs.Nested.{isStructure, isMutable};
+ghost use Rattle.ground.specs.Choice.{both};
+ghost use mathlib.Core.Path.{_≡_};
+ghost use mathlib.Core.Bool.{false};
 
 pub mod member;
 pub mod plain;
@@ -14,8 +18,11 @@ pub mod union;
 pub mod value;
 
 use book::index::place;
+use book::member::member_count;
 use kinds::names::ENUM;
 use kinds::names::STRUCTURE;
+use lookup::ahead::Start;
+use lookup::ahead::start_at;
 use table::out::Out;
 use table::out::Refusal;
 use table::rows::Row;
@@ -148,9 +155,14 @@ pub fn body(
         Contents::Between(d, end) => {
             let part = cut(s, set, 0, end as u64);
             if (kind == STRUCTURE) & types::is_mutable(book, at) {
-                return structure::mstruct(book, index, part, set, t, at, end, d, n, depth);
+                return match start_at(part, set, 0 < member_count(book, at), d) {
+                    Start::Short(x) => Out::Short(x),
+                    Start::From(back, h) => {
+                        structure::mmembers(book, index, part, set, t, at, end, back, h, n, depth)
+                    }
+                };
             }
-            let out = members(book, index, part, set, t, at, d, n, depth);
+            let out = inner(book, index, part, set, t, at, d, n, depth);
             if set.keeps_ends() & types::is_delimited(book, at) {
                 return types::stand_at(end, out);
             }
@@ -160,7 +172,7 @@ pub fn body(
 }
 
 // The members of a structure that is not Mutable, or of a union.
-pub fn members(
+pub fn inner(
     book: &[u8],
     index: &[u32],
     s: &[u8],

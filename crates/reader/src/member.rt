@@ -137,7 +137,11 @@ pub fn found(
     ensures { λ r. ⌜ Done (foundIn (now (book .entry)) (now (index .entry)) (now (s .entry)) set depth (memberAt (now (book .entry)) p) length c (room (now (t .entry)) n)) n (now (t .entry)) (now (t .exit)) r ⌝ }
 {
     let ty = type_index(book, p);
+    let i = id(book, p) as u64;
     let q = place(book, index, ty);
+    if kinds::opens(kind_at(book, q)) {
+        return as_nested(book, index, s, set, t, ty, i, 1, c, n, depth);
+    }
     if by_length(book, index, set, q) {
         let count = element_count(book, index, q, length);
         return elements(
@@ -147,13 +151,12 @@ pub fn found(
             set,
             t,
             element(book, q),
-            id(book, p) as u64,
+            i,
             count,
             c,
             n,
             depth,
         );
     }
-    let i = id(book, p) as u64;
     value(book, index, s, set, t, ty, i, c, n, depth)
 }

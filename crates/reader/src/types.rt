@@ -129,7 +129,7 @@ pub fn is_delimited(book: &[u8], at: usize) -> bool
 
 // Whether a DHEADER that is short is not heard: a Mutable union's, where ends are not kept.
 fn may_fail_unheard(book: &[u8], set: Settings, at: usize) -> bool
-    ensures { λ r. ⌜ r ≡ mayFailUnheard (now (book .entry)) set (typeAt (now (book .entry)) at) ⌝ }
+    ensures { λ r. ⌜ r ≡ mayFailUnheard set (typeAt (now (book .entry)) at) ⌝ }
 {
     !set.keeps_ends() & is_mutable(book, at) & (kind_at(book, at) != STRUCTURE)
 }

@@ -2,7 +2,7 @@
 ghost use Rattle.book.specs.Places.{typeAt};
 ghost use Rattle.table.specs.Rows.{room};
 ghost use Rattle.table.specs.Code.Outcome.{Done};
-ghost use Rattle.reader.specs.Code.Cycle.{elementsIn, countedIn, listIn, valueIn};
+ghost use Rattle.reader.specs.Code.Cycle.{elementsIn, listIn, valueIn};
 use crate::as_nested;
 use crate::types::end_at;
 use crate::types::is_sequence;
@@ -85,46 +85,18 @@ pub fn listed(
         Contents::Past => Out::Refused(Refusal::InvalidData),
         Contents::Between(d, end) => {
             let part = cut(s, set, 0, end as u64);
-            let out = counted(book, index, part, set, t, at, id, d, n, depth);
-            if set.keeps_ends() & !primitive {
-                return end_at(end, out);
+            match count_at(part, set, is_sequence(book, at), bound(book, at) as u64, d) {
+                Number::Short(x) => Out::Short(x),
+                Number::Got(count, first) => {
+                    let ty = element(book, at);
+                    let out = elements(book, index, part, set, t, ty, id, count, first, n, depth);
+                    if set.keeps_ends() & !primitive {
+                        return end_at(end, out);
+                    }
+                    out
+                }
             }
-            out
         }
-    }
-}
-
-// How many elements a list has, then the elements.
-pub fn counted(
-    book: &[u8],
-    index: &[u32],
-    s: &[u8],
-    set: Settings,
-    t: &mut [u64],
-    at: usize,
-    id: u64,
-    c: Cursor,
-    n: usize,
-    depth: usize,
-) -> Out
-    ensures { λ r. ⌜ Done (countedIn (now (book .entry)) (now (index .entry)) (now (s .entry)) set depth (typeAt (now (book .entry)) at) id c (room (now (t .entry)) n)) n (now (t .entry)) (now (t .exit)) r ⌝ }
-{
-    let ty = element(book, at);
-    match count_at(s, set, is_sequence(book, at), bound(book, at) as u64, c) {
-        Number::Short(x) => Out::Short(x),
-        Number::Got(count, first) => elements(
-            book,
-            index,
-            s,
-            set,
-            t,
-            ty,
-            id,
-            count,
-            first,
-            n,
-            depth,
-        ),
     }
 }
 

@@ -8,7 +8,7 @@ use Rattle.book.specs.Types.{BookType, Member}
 use Rattle.book.specs.Places.{typesBy}
 use Rattle.table.specs.Outcome.{Outcome, andThen}
 use Rattle.choice.specs.declared.discriminator.Discriminator.{Discriminator}
-use Rattle.reader.specs.Value.{Nest, elementsOf, countedOf, listValue, valueOf}
+use Rattle.reader.specs.Value.{Nest, elementsOf, listValue, valueOf}
 use Rattle.reader.specs.Member.{foundValue, mmemberOf, optionalBy, fmemberOf}
 use Rattle.reader.specs.Structure.{fmembersOf, mmembersOf}
 use Rattle.reader.specs.Union.{discriminatorBy, onDiscriminator, membersBy}
@@ -24,9 +24,6 @@ module _ (book index s : List ℕ) (set : Settings) (d : ℕ) where
 
   abbrev pub elementsIn : ℕ → ℕ → ℕ → Cursor → ℕ → Outcome
   elementsIn = elementsOf (typesBy book index) s set nest
-
-  abbrev pub countedIn : BookType → ℕ → Cursor → ℕ → Outcome
-  countedIn = countedOf (typesBy book index) s set nest
 
   abbrev pub listIn : BookType → ℕ → Cursor → ℕ → Outcome
   listIn = listValue (typesBy book index) s set nest
