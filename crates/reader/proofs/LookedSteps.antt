@@ -35,7 +35,7 @@ use Rattle.lookup.specs.declared.ahead.Hint.{Hint}
 use Rattle.lookup.specs.declared.ahead.Start.{Start}
 use Rattle.lookup.specs.declared.ahead.Start.the-variants as start
 use Rattle.lookup.specs.declared.ahead.Ahead.{Ahead}
-use Rattle.lookup.specs.Code.Ahead.{TrueHint, hintAfter, firstLookup, StartIs}
+use Rattle.lookup.specs.Code.Ahead.{TrueHint, hintAfter, firstLookup, StartIs, valueAt}
 use Rattle.table.specs.declared.rows.Row.{Row}
 use Rattle.table.specs.declared.out.Refusal.{Refusal}
 use Rattle.table.specs.declared.out.Out.{Out}
@@ -254,6 +254,15 @@ small-as e h = rw e h
 
 pub found-at : (s : List ℕ) (set : Settings) (i : ℕ) {size : ℕ} {c d back : Cursor} → c ≡ d → locate s set i back ≡ located.Found size d back → locate s set i back ≡ located.Found size c back
 found-at s set i {size} {back = back} e f = f ∙ ap (λ (x : Cursor). located.Found size x back) (sym e)
+
+-- .. and of a member's own data
+pub own-at : (s : List ℕ) (set : Settings) (v o size : ℕ) {c : Cursor} {own : List ℕ} → c ≡ valueAt (set .version) v o → own ≡ cutAt set s (v + size) → own ≡ cutAt set s (c .pos + size)
+unfolding valueAt
+own-at s set v o size {c} e f = f ∙ ap (λ (p : ℕ). cutAt set s (p + size)) (sym (ap (λ (x : Cursor). x .pos) e ∙ go (set .version)))
+  where
+    go : (x : Version) → valueAt x v o .pos ≡ v
+    go Xcdr1 = refl
+    go Xcdr2 = refl
 
 pub hint-on : (s : List ℕ) (set : Settings) (back : Cursor) (o : ℕ) (a : Ahead) {i j : ℕ} {g : Hint} → g ≡ hintAfter a i → i ≡ j → TrueHint s set back o (hintAfter a j) → TrueHint s set back o g
 hint-on s set back o a e f l = rw (e, f) l

@@ -86,6 +86,15 @@ module _ (s : List ℕ) (set : Settings) (end : ℕ) (kept : keepsEnds set ≡ t
       go (Short x) q = let w = was-short h q in rw (f ∙ ap (standingAt end) q) (is-short (then-short _ (w .is)) (w .filled))
       go (Refused k) q = let w = was-refused h q in rw (f ∙ ap (standingAt end) q) (is-refused (then-refused _ (w .is)) (w .filled))
 
+-- what is not both
+pub no-mutable-structure : (b : List ℕ) (at k : ℕ) (y : Bool) → k ≡ typeAt b at .kind → y ≡ isMutable (typeAt b at) → (eqb k 22 && y) ≡ false → both (isStructure (typeAt b at)) (isMutable (typeAt b at)) ≡ false
+unfolding isStructure
+no-mutable-structure b at k y kind mutable e =
+    ap (λ (x : Bool). both x (isMutable (typeAt b at))) (sym structure) ∙ ap (both (eqb k 22)) (sym mutable) ∙ sym (and-both (eqb k 22) y) ∙ e
+  where
+    structure : eqb k 22 ≡ isStructure (typeAt b at)
+    structure = ap (λ (x : ℕ). eqb x 22) kind
+
 -- what stands beneath the row of a value
 module _ (types : List BookType) (s : List ℕ) (set : Settings) (nest : Nest) (b : List ℕ) (at : ℕ) (c : Cursor) (t : List ℕ) (n k : ℕ) (kind : k ≡ typeAt b at .kind) where
   abbrev body : Outcome
@@ -128,11 +137,7 @@ module _ (types : List BookType) (s : List ℕ) (set : Settings) (nest : Nest) (
           let g : isMutable (typeAt b at) ≡ true = sym mutable ∙ and-second (eqb k 22) y e in
           is-same (between ∙ rw (mutable-ends set (typeAt b at) f g, f, g)) h
 
-      -- the members of any other may not be looked for
-      pub body-other : (eqb k 22 && y) ≡ false → both (isStructure (typeAt b at)) (isMutable (typeAt b at)) ≡ false
-      body-other e = rw (← structure, ← mutable) (sym (and-both (eqb k 22) y) ∙ e)
-
-      -- .. and it ends by its DHEADER, or where its members end
+      -- any other ends by its DHEADER, or where its members end
       module _ (others : (eqb k 22 && y) ≡ false) (u : List ℕ) (r : Out) (h : Done (membersOf types w set nest (typeAt b at) d (room t n)) n t u r) (z o : Bool) (keeps : z ≡ keepsEnds set) (delimited : o ≡ isDelimited (typeAt b at)) where
         pub body-there : (z && o) ≡ true → (v : Out) → v ≡ standingAt end r → Done body n t u v
         unfolding endingOf endingIf hasEnding
@@ -147,7 +152,7 @@ module _ (types : List BookType) (s : List ℕ) (set : Settings) (nest : Nest) (
           where
             no-ending : (x p : Bool) → x ≡ keepsEnds set → p ≡ isDelimited (typeAt b at) → (x && p) ≡ false → pick (keepsEnds set) (isDelimited (typeAt b at)) (both (isMutable (typeAt b at)) (isStructure (typeAt b at))) ≡ false
             no-ending true p i j q = rw (← i, ← j) q
-            no-ending false p i j q = rw (← i) (both-swap (isStructure (typeAt b at)) (isMutable (typeAt b at)) (body-other others))
+            no-ending false p i j q = rw (← i) (both-swap (isStructure (typeAt b at)) (isMutable (typeAt b at)) (no-mutable-structure b at k y kind mutable others))
 
 -- the members of a structure that is not Mutable, and those of a union
 module _ (types : List BookType) (s : List ℕ) (set : Settings) (nest : Nest) (b : List ℕ) (at : ℕ) (c : Cursor) (t : List ℕ) (n k : ℕ) (kind : k ≡ typeAt b at .kind) (u : List ℕ) (r : Out) where

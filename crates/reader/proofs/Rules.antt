@@ -7,11 +7,11 @@ use Rattle.reader.proofs.MemberSteps.{found-length, found-value, found-
 use Rattle.reader.proofs.StructureSteps.{fmembers-start, fmembers-end}
 use Rattle.reader.proofs.LookedSteps.{mstruct-short, mstruct-members, mstruct-hint}
 use Rattle.reader.proofs.UnionSteps.{chosen-absent, chosen-unfit, chosen-none, chosen-looked, chosen-plain, union-empty, union-short, union-refused, union-read, discriminator-looked, discriminator-plain}
-use Rattle.reader.proofs.NestedSteps.{body-enum, body-short, body-past, body-mstruct, body-other, body-there, body-rest, members-structure, members-union}
+use Rattle.reader.proofs.NestedSteps.{body-enum, body-short, body-past, body-mstruct, body-there, body-rest, members-structure, members-union}
 
 pub ruleset as-nested-laws = (run-start, run-end)
 
-pub ruleset body-laws = (body-enum, body-short, body-past, body-mstruct, body-other, body-there, body-rest, mstruct-short, mstruct-members, mstruct-hint)
+pub ruleset body-laws = (body-enum, body-short, body-past, body-mstruct, body-there, body-rest, mstruct-short, mstruct-members, mstruct-hint)
 
 pub ruleset inner-laws = (members-structure, members-union)
 
