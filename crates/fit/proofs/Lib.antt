@@ -4,6 +4,7 @@ pub mod Ranges
 pub mod Scalars
 pub mod Unions
 pub mod Fits
+pub mod Cuts
 pub mod Settling
 pub mod Exact
 pub mod Books
