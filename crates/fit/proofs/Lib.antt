@@ -12,4 +12,7 @@ pub mod ClauseTests
 pub mod Measuring
 pub mod Checking
 pub mod Demand3
+pub mod Standing
+pub mod Searches
+pub mod Within
 mod Examples
