@@ -16,3 +16,4 @@ pub mod Standing
 pub mod Searches
 pub mod Within
 mod Examples
+mod WithinExamples

@@ -160,16 +160,16 @@ module _ (s : List ℕ) where
 
   -- ---- contents: an end past the data's is refused where ends are kept, and in XCDR1 none is told
 
-  module _ (set : Settings) (inside : StaysInside set) where
+  module _ (set : Settings) where
     up-to-in : (c : Cursor) (n : ℕ) → keepsEnds set ≡ true → ContentsIn (length s) (upTo s set c (c .pos + n))
     unfolding upTo
     up-to-in c n e = rw e (by-test (ContentsIn (length s)) (ltb (length s) (c .pos + n)) (λ f. contents-past) (λ f. contents-in (omega arith) (ltb-false (length s) (c .pos + n) f)))
 
-    delimited-in : (v : Version) (c : Cursor) → set .version ≡ v → c .pos ≤ length s → ContentsIn (length s) (delimitedBy v s set c)
+    delimited-in : StaysInside set → (v : Version) (c : Cursor) → set .version ≡ v → c .pos ≤ length s → ContentsIn (length s) (delimitedBy v s set c)
     unfolding delimitedBy dheaderAt
-    delimited-in Xcdr1 c e l = contents-in l (omega arith)
-    delimited-in Xcdr2 c e l = after-number (ContentsIn (length s)) (length s) contents.Short (λ x k. no-contents k) (read-in set c 4 l) _ (λ n d k. up-to-in d n (inside e))
+    delimited-in inside Xcdr1 c e l = contents-in l (omega arith)
+    delimited-in inside Xcdr2 c e l = after-number (ContentsIn (length s)) (length s) contents.Short (λ x k. no-contents k) (read-in set c 4 l) _ (λ n d k. up-to-in d n (inside e))
 
-    pub contents-at-in : (f : Bool) (c : Cursor) → c .pos ≤ length s → ContentsIn (length s) (contentsAt s set f c)
+    pub contents-at-in : StaysInside set → (f : Bool) (c : Cursor) → c .pos ≤ length s → ContentsIn (length s) (contentsAt s set f c)
     unfolding contentsAt
-    contents-at-in f c l = by-test (ContentsIn (length s)) f (λ e. delimited-in (set .version) c refl l) (λ e. contents-in l (omega arith))
+    contents-at-in inside f c l = by-test (ContentsIn (length s)) f (λ e. delimited-in inside (set .version) c refl l) (λ e. contents-in l (omega arith))
