@@ -43,7 +43,7 @@ use Rattle.reader.specs.Value.{Nest, readAs, isSequence, openedFrom, openedList
 use Rattle.reader.specs.Member.{byLength, elementCount, foundBy, foundValue, foundOf, onLocated, mmemberOf, onPresent, optionalBy, fmemberBy, fmemberOf}
 use Rattle.reader.specs.Structure.{absorbs, fmembersOf, mmembersOf}
 use Rattle.reader.specs.Union.{memberBy, discriminatorBy, onSelected, onDiscriminator, chosenOf, membersBy}
-use Rattle.reader.specs.Nested.{isMutable, isStructure, isDelimited, unheard, unheardIf, mayFailUnheard, beginningOf, endingBy, endingIf, hasEnding, endingOf, membersIf, membersOf, contentsOf, delimitedOf, bodyBy, bodyOf, openedIf, tooDeepIf, nestedAt, reading}
+use Rattle.reader.specs.Nested.{isMutable, isStructure, isDelimited, unheard, unheardIf, beginningOf, endingBy, endingIf, endingOf, membersIf, membersOf, contentsOf, delimitedOf, bodyBy, bodyOf, openedIf, tooDeepIf, nestedAt, reading}
 use Rattle.fit.specs.Within.{Within, read-within, short-within, refused-within, StaysInside}
 use Rattle.fit.proofs.Ends.{by-test}
 use Rattle.fit.proofs.Cuts.{cut-shorter, cut-keeps}
@@ -326,7 +326,7 @@ module _ (types : List BookType) (set : Settings) (inside : StaysInside set) (ne
 
     contents-within : (t : BookType) (end : ℕ) (c : Cursor) (k : ℕ) → end ≤ length s → c .pos ≤ length s → Within (length s) (contentsOf types s set nest t end c k)
     unfolding contentsOf membersOf endingOf
-    contents-within t end c k h l = within-then _ (members-within (isStructure t) (isMutable t) t c k l) (λ e n i. ending-within (hasEnding s set t) end e h i)
+    contents-within t end c k h l = within-then _ (members-within (isStructure t) (isMutable t) t c k l) (λ e n i. ending-within _ end e h i)
 
     unheard-in : (b : Bool) {g : Contents} → ContentsIn (length s) g → ContentsIn (length s) (unheardIf s set b g)
     unfolding unheardIf unheard
@@ -339,7 +339,7 @@ module _ (types : List BookType) (set : Settings) (inside : StaysInside set) (ne
     delimited-within : (t : BookType) (c : Cursor) (k : ℕ) → c .pos ≤ length s → Within (length s) (delimitedOf types s set nest t c k)
     unfolding delimitedOf beginningOf
     delimited-within t c k l =
-        within-contents InvalidData _ (unheard-in s (mayFailUnheard s set t) (contents-at-in s set inside (isDelimited t) c l)) (λ d end h m.
+        within-contents InvalidData _ (unheard-in s _ (contents-at-in s set inside (isDelimited t) c l)) (λ d end h m.
         within-wider (cut-shorter set s end) (contents-within (cutAt set s end) t end d k (cut-keeps set s end end (omega arith) m) (cut-keeps set s end (d .pos) h (omega arith))))
 
     body-by : (b : Bool) (t : BookType) (c : Cursor) (k : ℕ) → c .pos ≤ length s → Within (length s) (bodyBy types s set nest b t c k)
