@@ -44,7 +44,7 @@ use Rattle.values.specs.Scalar.{scalarOf, enumOf}
 use Rattle.values.specs.List.{elementsFrom, listOf, onBlock, blockOf, primitivesOf, bitmasksOrTextsOf}
 use Rattle.wire.specs.Dheader.{contentsAt}
 use Rattle.wire.specs.Ends.{keepsEnds, cutAt}
-use Rattle.values.specs.Header.{countAt}
+use Rattle.values.specs.Count.{countAt}
 use Rattle.reader.specs.Value.{Nest, readAs, isSequence, primitiveElement, openedFrom, openedList, elementsOf, countedOf, hasDheader, listEndIf, listEnd, listValue, valueOf}
 use Rattle.reader.specs.Member.{byLength, elementCount, foundBy, foundValue, foundOf, onLocated, mmemberOf, onPresent, optionalBy, fmemberBy, fmemberOf}
 use Rattle.reader.specs.Structure.{absorbs, fmembersOf, mmembersOf}
@@ -104,10 +104,10 @@ by-length Xcdr2 Crate types t e = both-first (eqb (t .kind) 25) (primitiveElemen
 by-length Xcdr2 Standard types t e = absurd (apart e)
 
 -- what ends a list has no rows
-list-end : (types : List BookType) (set : Settings) (b : Bool) (end : ℕ) (c : Cursor) → Settles NoRows (listEndIf types set b end c)
+list-end : (b : Bool) (end : ℕ) (c : Cursor) → Settles NoRows (listEndIf b end c)
 unfolding listEndIf
-list-end types set false end c = finished refl
-list-end types set true end c = by-test (Settles NoRows) (eqb (c .pos) end) (λ e. finished refl) (λ e. broken bad-data)
+list-end false end c = finished refl
+list-end true end c = by-test (Settles NoRows) (eqb (c .pos) end) (λ e. finished refl) (λ e. broken bad-data)
 
 -- ---- members
 
@@ -226,8 +226,8 @@ module _ (types : List BookType) (w : List ℕ) (set : Settings) (right : (k : �
     unfolding listValue listEnd
     list-value ty id c k e f =
         let t = typeNo types ty in
-        ends-contents InvalidData bad-data (contentsAt s set (hasDheader types set t) c) _ (λ d end.
-        settles-then-none _ (counted-settles (cutAt set s end) (part-cut set s end of) ty id d k e f) (λ x used. list-end types set (both (keepsEnds set) (hasDheader types set t)) end x))
+        ends-contents InvalidData bad-data (contentsAt s set (hasDheader types t) c) _ (λ d end.
+        settles-then-none _ (counted-settles (cutAt set s end) (part-cut set s end of) ty id d k e f) (λ x used. list-end (both (keepsEnds set) (hasDheader types t)) end x))
 
     value-settles : (m : Member) (c : Cursor) (k : ℕ) → Ready types depth m → Settles (Held types w m) (valueOf types s set nest (m .type) (m .id) c k)
     unfolding valueOf memberSupported

@@ -38,7 +38,7 @@ use Rattle.table.specs.declared.out.Refusal.the-variants.{InvalidData}
 use Rattle.table.specs.Outcome.{Outcome, read, short, refused, roomFor, prepend, andThen, orEndIf, closed, backTo}
 use Rattle.values.specs.Scalar.{rowed, onBoolean, onFloat128, onNumber, onText, scalarOf, enumOf}
 use Rattle.values.specs.List.{elementsFrom, listOf, onBlock, blockOf, primitivesOf, bitmasksOrTextsOf}
-use Rattle.values.specs.Header.{countAt}
+use Rattle.values.specs.Count.{countAt}
 use Rattle.reader.specs.Value.{Nest, readAs, isSequence, openedFrom, openedList, elementsOf, countedOf, hasDheader, listEndIf, listEnd, listValue, valueOf}
 use Rattle.reader.specs.Member.{byLength, elementCount, foundBy, foundValue, foundOf, onLocated, mmemberOf, onPresent, optionalBy, fmemberBy, fmemberOf}
 use Rattle.reader.specs.Structure.{absorbs, fmembersOf, mmembersOf}
@@ -190,7 +190,7 @@ module _ (types : List BookType) (set : Settings) (inside : StaysInside set) (ne
     counted-within t id c k l =
         after-number (Within (length s)) (length s) short (λ x h. short-within h) (count-in (isSequence t) (t .bound) c l) _ (λ count d h. elements-within (t .element) id count d k h)
 
-    list-end : (b : Bool) (end : ℕ) (c : Cursor) → c .pos ≤ length s → Within (length s) (listEndIf types set b end c)
+    list-end : (b : Bool) (end : ℕ) (c : Cursor) → c .pos ≤ length s → Within (length s) (listEndIf b end c)
     unfolding listEndIf
     list-end false end c l = read-within l
     list-end true end c l = by-test (Within (length s)) (eqb (c .pos) end) (λ e. read-within l) (λ e. refused-within)
@@ -199,10 +199,10 @@ module _ (types : List BookType) (set : Settings) (inside : StaysInside set) (ne
     list-value : (t : BookType) (id : ℕ) (c : Cursor) (k : ℕ) → c .pos ≤ length s → Within (length s) (listValue types s set nest t id c k)
     unfolding listValue listEnd
     list-value t id c k l =
-        within-contents InvalidData _ (contents-at-in s set inside (hasDheader types set t) c l) (λ d end h m.
+        within-contents InvalidData _ (contents-at-in s set inside (hasDheader types t) c l) (λ d end h m.
         let cut = cutAt set s end in
         within-wider (cut-shorter set s end)
-        (within-then _ (counted-within cut t id d k (cut-keeps set s end (d .pos) h (omega arith))) (λ e n i. list-end cut (both (keepsEnds set) (hasDheader types set t)) end e i)))
+        (within-then _ (counted-within cut t id d k (cut-keeps set s end (d .pos) h (omega arith))) (λ e n i. list-end cut (both (keepsEnds set) (hasDheader types t)) end e i)))
 
     value-within : (ty id : ℕ) (c : Cursor) (k : ℕ) → c .pos ≤ length s → Within (length s) (valueOf types s set nest ty id c k)
     unfolding valueOf
