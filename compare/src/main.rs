@@ -138,6 +138,7 @@ struct Run {
     port: Port,
     tally: Tally,
     differences: u64,
+    shown: u64,
     total: u64,
     seed: u64,
     cases: String,
@@ -150,7 +151,7 @@ impl Run {
     fn new(args: &[String], mode: Mode, first: bool) -> Run {
         let port = Port { folder: args[5].clone(), command: args[6..].to_vec() };
         let (total, seed) = (args[2].parse().expect("COUNT"), args[3].parse().expect("SEED"));
-        Run { port, tally: Tally::default(), differences: 0, total, seed, cases: args[4].clone(), mode, first }
+        Run { port, tally: Tally::default(), differences: 0, shown: 0, total, seed, cases: args[4].clone(), mode, first }
     }
 
     fn all(&mut self) {
@@ -208,7 +209,8 @@ impl Run {
 
     fn differ(&mut self, c: &Case) {
         self.differences += 1;
-        if self.differences > 5 {
+        self.shown += 1;
+        if self.shown > 5 {
             return;
         }
         let small = shrink::shrink(&self.port, c);

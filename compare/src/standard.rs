@@ -24,26 +24,25 @@ impl Rows<'_> {
                 self.rows.push([25, id, stored(&types[t.element as usize]) as u64, all.len() as u64]);
                 return all.iter().enumerate().all(|(i, v)| self.value(t.element, i as u64, v));
             }
-            Value::Opened(all) => {
-                let at = self.rows.len();
-                self.rows.push([t.kind as u64, id, ty as u64, 0]);
-                if !self.members(t, all) {
-                    return false;
-                }
-                self.rows[at][3] = (self.rows.len() - at - 1) as u64;
-            }
+            Value::Union(selected, all) => return selects(t, *selected, all) && self.opened(ty, id, all),
+            Value::Opened(all) => return self.opened(ty, id, all),
         }
         true
     }
 
+    fn opened(&mut self, ty: u16, id: u64, all: &[(u32, Value)]) -> bool {
+        let t = &self.types[ty as usize];
+        let at = self.rows.len();
+        self.rows.push([t.kind as u64, id, ty as u64, 0]);
+        let read = self.members(t, all);
+        self.rows[at][3] = (self.rows.len() - at - 1) as u64;
+        read
+    }
+
     fn members(&mut self, t: &Type, all: &[(u32, Value)]) -> bool {
-        match (t.kind, all) {
-            (21, [(_, Value::Number(a, b))]) => {
-                self.rows.push([t.base as u64, 0, *a, *b]);
-                return true;
-            }
-            (23, _) if !selects(t, all) => return false,
-            _ => {}
+        if let (21, [(_, Value::Number(a, b))]) = (t.kind, all) {
+            self.rows.push([t.base as u64, 0, *a, *b]);
+            return true;
         }
         t.members.iter().all(|m| match all.iter().find(|(id, _)| *id == m.id) {
             Some((_, v)) => self.value(m.ty, m.id as u64, v),
@@ -53,7 +52,7 @@ impl Rows<'_> {
 }
 
 /// Whether the reader's union selects the member that was written. It may have it no more; and document 01 refuses a union that selects none.
-fn selects(t: &Type, all: &[(u32, Value)]) -> bool {
+fn selects(t: &Type, written: Option<u32>, all: &[(u32, Value)]) -> bool {
     let x = match &all[0].1 {
         Value::Number(a, _) => *a,
         Value::Opened(inside) => match inside[0].1 {
@@ -63,17 +62,12 @@ fn selects(t: &Type, all: &[(u32, Value)]) -> bool {
         _ => return false,
     };
     let by_label = t.members.iter().find(|m| m.labels.contains(&(x as i32)));
-    match by_label.or(t.members.iter().rev().find(|m| m.flags & DEFAULT != 0)) {
-        Some(m) => all.len() == 1 || all[1].0 == m.id,
-        None => false,
-    }
+    let selected = by_label.or(t.members.iter().rev().find(|m| m.flags & DEFAULT != 0));
+    written.is_some() && selected.map(|m| m.id) == written
 }
 
 /// Changes a word that says how the message is to be read.
 fn damage(w: &mut Writer) -> &'static str {
-    if w.places.is_empty() {
-        return "same type";
-    }
     let Place { what, at, end, around } = w.rng.pick(&w.places);
     let was = w.word_at(at);
     let around = if around == 0 { w.out.len() } else { around };
@@ -111,7 +105,7 @@ fn written(r: &mut Rng) -> Case {
     let strangers = r.chance(50);
     let mut w = Writer { types: &writer, rng: r, big, xcdr2, out: Vec::new(), places: Vec::new(), strangers };
     let value = w.value(root).expect("the root is no NONE");
-    if harm {
+    if harm && !w.places.is_empty() {
         way = damage(&mut w);
     }
     let mut data = w.out;

@@ -12,6 +12,8 @@ pub enum Value {
     List(Vec<Value>),
     /// Members by their id; of an enum its value, by 0.
     Opened(Vec<(u32, Value)>),
+    /// The id of the member that was selected, and what was written.
+    Union(Option<u32>, Vec<(u32, Value)>),
 }
 
 #[derive(Clone, Copy, PartialEq)]
@@ -201,12 +203,13 @@ impl Writer<'_> {
         }
         let header = (self.xcdr2 && t.ext != FINAL).then(|| self.open(What::Dheader));
         let mut all = Vec::new();
+        let mut selected = None;
         if t.kind == 22 {
             for m in &t.members {
                 self.member(t.ext, m, &mut all, Self::value);
             }
         } else {
-            self.union(t, &mut all);
+            selected = self.union(t, &mut all);
         }
         if t.ext == MUTABLE {
             self.stranger();
@@ -214,19 +217,24 @@ impl Writer<'_> {
         if let Some(h) = header {
             self.close_dheader(h);
         }
-        Value::Opened(all)
+        if t.kind == 22 {
+            Value::Opened(all)
+        } else {
+            Value::Union(selected, all)
+        }
     }
 
-    fn union(&mut self, t: &Type, all: &mut Vec<(u32, Value)>) {
+    /// Its discriminator and the member that it selects, whose id is told.
+    fn union(&mut self, t: &Type, all: &mut Vec<(u32, Value)>) -> Option<u32> {
         let label = self.rng.below(15) as i32;
         let by_label = t.members.iter().find(|m| m.labels.contains(&label));
         let selected = by_label.or(t.members.iter().rev().find(|m| m.flags & DEFAULT != 0));
         let types = self.types;
         let kind = &types[t.members[0].ty as usize];
         self.member(t.ext, &t.members[0], all, |w, _| Some(w.held(kind, label as u128)));
-        if let Some(m) = selected {
-            self.member(t.ext, m, all, Self::value);
-        }
+        let m = selected?;
+        self.member(t.ext, m, all, Self::value);
+        Some(m.id)
     }
 
     fn member(&mut self, ext: u8, m: &Member, all: &mut Vec<(u32, Value)>, value: impl Fn(&mut Self, u16) -> Option<Value>) {
@@ -307,6 +315,6 @@ fn shift(v: &mut Value) {
         Value::Number(..) => {}
         Value::Text(start, _) => *start += 4,
         Value::List(all) => all.iter_mut().for_each(shift),
-        Value::Opened(all) => all.iter_mut().for_each(|(_, v)| shift(v)),
+        Value::Opened(all) | Value::Union(_, all) => all.iter_mut().for_each(|(_, v)| shift(v)),
     }
 }
