@@ -54,6 +54,14 @@ pub fn by_rules_in(case: &Case, rows: usize) -> Reading {
     rules::read(&case.types, case.root, &case.message, case.mode, rows)
 }
 
+/// A random case of a mode.
+pub fn made(mode: Mode, seed: u64, number: u64) -> Case {
+    match mode {
+        Mode::Crate => gen::case(seed, number),
+        Mode::Standard => standard::case(seed, number),
+    }
+}
+
 /// The words of a table that has room for a reading, and some to spare.
 pub fn words_for(r: &Reading) -> usize {
     4 * ROWS.min(r.needed + 20) + 3
@@ -159,12 +167,11 @@ impl Run {
         let mut at = 0;
         while at < self.total {
             let n = (self.total - at).min(5000);
-            let made = if self.mode == Mode::Crate { gen::case } else { standard::case };
-            let cases: Vec<Case> = (at..at + n).map(|i| made(self.seed, i)).collect();
+            let cases: Vec<Case> = (at..at + n).map(|i| made(self.mode, self.seed, i)).collect();
             self.window(cases, self.seed.wrapping_add(at));
             at += n;
         }
-        self.tally.print(self.mode);
+        self.tally.print(&[self.mode]);
         let which = if self.mode == Mode::Crate { "" } else { " (standard mode)" };
         println!("{} cases with seed {}: {} differences{which}", self.total, self.seed, self.differences);
         std::process::exit((self.differences > 0) as i32);

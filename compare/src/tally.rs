@@ -209,12 +209,12 @@ impl Tally {
         all.into_iter().map(|w| named(mode, w)).collect()
     }
 
-    /// All that was counted, and what a mode wants and was not.
-    pub fn print(&self, mode: Mode) {
+    /// All that was counted, and what the modes want and was not.
+    pub fn print(&self, modes: &[Mode]) {
         for (what, n) in &self.0 {
             println!("{n:>10}  {what}");
         }
-        for w in Self::wanted(mode) {
+        for w in modes.iter().flat_map(|m| Self::wanted(*m)) {
             if !self.0.contains_key(&w) {
                 println!("NOT REACHED  {w}");
             }
@@ -222,7 +222,8 @@ impl Tally {
     }
 }
 
-fn named(mode: Mode, what: String) -> String {
+/// A feature's name, with the mode that reached it.
+pub fn named(mode: Mode, what: String) -> String {
     match mode {
         Mode::Crate => what,
         Mode::Standard => format!("standard: {what}"),
