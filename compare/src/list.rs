@@ -74,7 +74,7 @@ pub fn replies(said: &str) -> Vec<Reply> {
     all
 }
 
-/// Where the crate says something else than what is stored: the entry's number, and how.
+/// Where the crate, or the rules where it has no say, say something else than what is stored: the entry's number, and how.
 pub fn differs(folder: &str) -> Option<String> {
     let input = std::fs::read(format!("{folder}/stdin")).expect("stdin");
     let output = std::fs::read_to_string(format!("{folder}/stdout")).expect("stdout");
@@ -82,7 +82,8 @@ pub fn differs(folder: &str) -> Option<String> {
     assert_eq!(entries.len(), replies.len(), "entries and answers");
     entries.iter().zip(&replies).enumerate().find_map(|(i, (e, said))| {
         if !crate::asks_the_crate(&e.case, said.number) {
-            return None;
+            let r = crate::by_rules_in(&e.case, e.rows);
+            return ((r.number, &r.rows) != (said.number, &said.rows)).then(|| format!("entry {}: the rules give {}", i + 1, r.number));
         }
         let crate_says = Oracle::new(&e.case.types).read(e.case.root, &e.case.message);
         crate::agree::differs(&crate_says, said.number, &said.rows, &e.case.message).map(|why| format!("entry {}: {why}", i + 1))
