@@ -68,7 +68,7 @@ fn selects(t: &Type, written: Option<u32>, all: &[(u32, Value)]) -> bool {
 
 /// Changes a word that says how the message is to be read.
 fn damage(w: &mut Writer) -> &'static str {
-    let Place { what, at, end, around } = w.rng.pick(&w.places);
+    let Place { what, at, around } = w.rng.pick(&w.places);
     let was = w.word_at(at);
     let around = if around == 0 { w.out.len() } else { around };
     let small = 1 + w.rng.below(8) as u32;
@@ -82,7 +82,7 @@ fn damage(w: &mut Writer) -> &'static str {
         (What::Next, _) => (was.saturating_sub(small), "NEXTINT too small"),
         (What::Length, 0..=2) => (was + small, "length too large"),
         (What::Length, 3..=6) => (was.saturating_sub(small), "length too small"),
-        (What::Length, _) => ((end - at) as u32 + w.rng.next() as u32, "length of any value"),
+        (What::Length, _) => (w.rng.next() as u32, "length of any value"),
         (What::Header, 0..=5) => (was & 0x8fff_ffff | (w.rng.below(8) as u32) << 28, "another LC"),
         (What::Header, _) => (was ^ 1, "another id"),
     };

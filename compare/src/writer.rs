@@ -1,6 +1,6 @@
 // A message as the standard writes it (DDS-XTypes 1.3, clause 7.4.3.5), of a random value: the bytes, the value itself, and where its headers and
 // lengths stand, so that they can be damaged.
-use crate::book::{is_primitive, width, Member, Type, APPENDABLE, DEFAULT, FINAL, MUTABLE, OPTIONAL};
+use crate::book::{is_primitive, width, Member, Type, DEFAULT, FINAL, MUTABLE, OPTIONAL};
 use crate::rng::Rng;
 
 /// A value as it was written.
@@ -24,13 +24,12 @@ pub enum What {
     Header,
 }
 
-/// Where a word stands that says how something is to be read, and for a DHEADER or a member's header what it ends.
+/// Where a word stands that says how something is to be read.
 #[derive(Clone, Copy)]
 pub struct Place {
     pub what: What,
     pub at: usize,
-    pub end: usize,
-    /// The end of the value around it.
+    /// The end of the value around it; 0 where that is the message's.
     pub around: usize,
 }
 
@@ -83,14 +82,13 @@ impl Writer<'_> {
     /// A word whose value comes later: which of the places it is.
     fn open(&mut self, what: What) -> usize {
         self.number(4, 0);
-        self.places.push(Place { what, at: self.out.len() - 4, end: 0, around: 0 });
+        self.places.push(Place { what, at: self.out.len() - 4, around: 0 });
         self.places.len() - 1
     }
 
-    /// The end of what a place heads; what stands between is inside it.
+    /// What a place heads ends here; the places between are inside it.
     fn close(&mut self, place: usize) {
         let end = self.out.len();
-        self.places[place].end = end;
         for p in &mut self.places[place + 1..] {
             if p.around == 0 {
                 p.around = end;
@@ -108,7 +106,6 @@ impl Writer<'_> {
         let place = self.open(What::Length);
         let at = self.places[place].at;
         self.put(at, n as u32);
-        self.places[place].end = at + 4;
     }
 
     /// A number of so many bytes, and its row's words.
@@ -278,10 +275,9 @@ impl Writer<'_> {
             written.iter_mut().for_each(shift);
             for p in &mut self.places[place + 1..] {
                 p.at += 4;
-                p.end += 4;
                 p.around += if p.around > 0 { 4 } else { 0 };
             }
-            self.places.push(Place { what: What::Next, at: start, end: start + 4, around: 0 });
+            self.places.push(Place { what: What::Next, at: start, around: 0 });
         }
         self.close(place);
         let must = (self.rng.chance(20) as u32) << 31;
