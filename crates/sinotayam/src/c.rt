@@ -45,7 +45,8 @@ pub extern "C" fn sinotayam_read(
 ) -> u64
     ensures { λ r. ⌜ Returned (readOf (now (book .entry)) root (now (message .entry)) (modeOf standard) (capacity (now (table .entry)))) (now (table .entry)) (now (table .exit)) r ⌝ }
 {
-    pack(read(book, root as usize, message, mode_of(standard), table))
+    let mode = mode_of(standard);
+    pack(read(book, root as usize, message, mode, table))
 }
 
 // The type check: 0, 8, 9 or 16.
@@ -74,14 +75,8 @@ pub extern "C" fn sinotayam_read_prepared(
 ) -> u64
     ensures { λ r. ⌜ Returned (readPrepared (now (book .entry)) (now (index .entry)) root (now (message .entry)) (modeOf standard) (capacity (now (table .entry)))) (now (table .entry)) (now (table .exit)) r ⌝ }
 {
-    pack(read_prepared(
-        book,
-        index,
-        root as usize,
-        message,
-        mode_of(standard),
-        table,
-    ))
+    let mode = mode_of(standard);
+    pack(read_prepared(book, index, root as usize, message, mode, table))
 }
 
 #[no_mangle]
