@@ -2,9 +2,9 @@
 // is longer than the checker follows. An entry is the mode, a byte (0 the crate's, 1 the standard's), the number of rows of the table, u16, and a
 // case as `rows` takes it: the book, the root, the message's length, the message. A message that `rows` would not take is read here too, and
 // answered.
-// The stored list begins with the 102 messages of Cyclone DDS and Fast-CDR whose rows are known from the samples that they wrote. The entries
-// after them, and what is said of them, `compare/sample` wrote (no words after it) from the crate dust_dds and document 01's rules; the port
-// took no part in it.
+// The stored list begins with 200 messages of Cyclone DDS and Fast-CDR, whose rows are known from the samples that they wrote: 102 entries in
+// the crate's mode, and all 200 in the standard's. The entries after them, and what is said of them, `compare/sample` wrote (no words after it)
+// from the crate dust_dds and from the rules in plain Rust; the port took no part in it.
 use book::bytes::byte_at;
 use book::bytes::pair_at;
 use book::bytes::quad_at;
