@@ -376,7 +376,7 @@ pub reading-within : (types : List BookType) (s : List ℕ) (set : Settings) →
 unfolding reading
 reading-within types s set inside root room = nested-within types set inside 16 s root 0 (cursorAt 0 0) room (omega arith)
 
--- .. so in the standard mode, and in XCDR1
+-- .. so in the standard's mode, and in XCDR1
 pub standard-inside : (set : Settings) → set .mode ≡ Standard → StaysInside set
 unfolding keepsEndsBy
 standard-inside set m v = rw (v, m)

@@ -172,7 +172,7 @@ length-codes :
 unfolding seeks2
 length-codes = (refl, refl, refl, refl, refl, refl, refl, refl)
 
--- the same in the standard mode: 5, 6 and 7 step back, and NEXTINT counts in the member's length
+-- the same in the standard's mode: 5, 6 and 7 step back, and NEXTINT counts in the member's length
 standard-codes :
     (locates (withNextint 0x00) standard 1 start ≡ located.Found 1 (cursorAt 4 0) start)
     × (locates (withNextint 0x40) standard 1 start ≡ located.Found 2 (cursorAt 8 0) start)

@@ -42,7 +42,7 @@ lengthByLc s set lc c = pick (ltb lc 4) (number.Got (fixedLength lc) c) (nextint
 unfoldable pub lengthOf : List ℕ → Settings → ℕ → Cursor → Number
 lengthOf s set emheader c = lengthByLc s set (lcOf emheader) c
 
--- "LC 5 steps back 4 on a match."; in the standard mode, order 1: "with LC 5, 6 and 7 NEXTINT is also the first four bytes of the member"
+-- "LC 5 steps back 4 on a match."; in the standard's mode, order 1: "with LC 5, 6 and 7 NEXTINT is also the first four bytes of the member"
 unfoldable pub stepBack : Mode → ℕ → ℕ
 stepBack Crate lc = pick (eqb lc 5) 4 0
 stepBack Standard lc = pick (within (5 ‥ 7) lc) 4 0
@@ -51,7 +51,7 @@ stepBack Standard lc = pick (within (5 ‥ 7) lc) 4 0
 abbrev pub valueFrom : Mode → ℕ → Cursor → Cursor
 valueFrom mode lc c = cursorAt (c .pos - stepBack mode lc) (c .origin)
 
--- the length that is found: the header's; in the standard mode the member's own, counted from where its value begins
+-- the length that is found: the header's; in the standard's mode the member's own, counted from where its value begins
 unfoldable pub lengthFrom : Mode → ℕ → ℕ → ℕ
 lengthFrom Crate lc n = n
 lengthFrom Standard lc n = n + stepBack Standard lc

@@ -61,7 +61,7 @@ pub fn step_back(mode: Mode, lc: u64) -> usize
     }
 }
 
-// The length that is found, of a header whose length is n: with NEXTINT in the standard mode, where it is the member's.
+// The length that is found, of a header that tells n: in the standard's mode NEXTINT's four bytes are counted too, where they are the member's.
 pub fn length_from(mode: Mode, lc: u64, n: u64) -> u64
     requires { ⌜ n < 256 ^ 5 ⌝ }
     ensures { λ r. ⌜ r ≡ lengthFrom mode lc n ⌝ }

@@ -39,11 +39,13 @@ module _ (types : List BookType) (s : List ℕ) (set : Settings) (nest : Nest) w
       elementsOf types s set nest (typeNo types (m .type) .element) (m .id) (elementCount types (typeNo types (m .type)) length) c room
   foundBy false m length c room = valueOf types s set nest (m .type) (m .id) c room
 
+  -- .. by version, mode and type
   unfoldable pub foundValue : Member → ℕ → Cursor → ℕ → Outcome
   foundValue m length c room = foundBy (byLength (set .version) (set .mode) types (typeNo types (m .type))) m length c room
 
 module _ (types : List BookType) (s : List ℕ) (set : Settings) (nest : Nest) where
-  -- a found member: where ends are kept it ends where its header says, and there the data is cut that its value is read from
+  -- a found member. "DDS-XTypes 1.3 clause 7.4.3 decides what this paragraph leaves open.": by 7.4.3.4.2 its header tells the member's length, so where ends
+  -- are kept its value is read from the data up to there
   unfoldable pub foundOf : Member → ℕ → Cursor → ℕ → Outcome
   foundOf m length c room = foundValue types (cutAt set s (c .pos + length)) set nest m length c room
 

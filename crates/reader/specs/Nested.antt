@@ -37,7 +37,7 @@ isStructure t = eqb (t .kind) 22
 unfoldable pub isDelimited : BookType → Bool
 isDelimited t = among (1 ∷ 2 ∷ []) (t .extensibility)
 
--- a Mutable union's DHEADER, in the crate's mode alone: "may fail unheard"
+-- "a Mutable union's DHEADER may fail unheard", where ends are not kept
 unfoldable pub mayFailUnheard : Settings → BookType → Bool
 mayFailUnheard set t = both (not (keepsEnds set)) (both (isMutable t) (not (isStructure t)))
 
@@ -47,13 +47,13 @@ unfoldable pub hasEnding : Settings → BookType → Bool
 hasEnding set t = pick (keepsEnds set) (isDelimited t) (both (isMutable t) (isStructure t))
 
 module _ (s : List ℕ) (set : Settings) where
-  -- "a Mutable union's DHEADER may fail unheard"; "Refusals keep the position reached."
+  -- its members then stand where it ran short: "Refusals keep the position reached." (`Past` comes up only where ends are kept, and there all is heard.)
   unfoldable pub unheard : Contents → Contents
   unheard (contents.Short x) = undelimited s (x .at)
   unheard contents.Past = contents.Past
   unheard (contents.Between c end) = contents.Between c end
 
-  -- or any other: "if that read is short, the value itself answers 1"
+  -- such a one, or any other: "if that read is short, the value itself answers 1"
   unfoldable pub unheardIf : Bool → Contents → Contents
   unheardIf true given = unheard given
   unheardIf false given = given

@@ -1,4 +1,4 @@
-// What the cycle asks of a type or a member in the book, and where a value's contents begin and a Mutable structure ends.
+// What the cycle asks of a type or a member in the book, where a value's contents begin, and where structures, unions and lists end.
 ghost use mathlib.Core.Path.{_≡_};
 ghost use Rattle.book.specs.Places.{memberAt, typeAt, typesBy};
 ghost use Rattle.reader.specs.Value.{isSequence, primitiveElement, readAs};

@@ -10,7 +10,7 @@ use Rattle.wire.specs.declared.settings.Mode.{Mode}
 use Rattle.wire.specs.declared.settings.Mode.the-variants.{Crate, Standard}
 use Rattle.wire.specs.declared.settings.Settings.{Settings}
 
--- order 1: "XCDR1 reads alike in both." In the crate's mode an end is told and not kept
+-- order 1: "XCDR1 reads alike in both." In the crate's mode a read may cross an end that is told
 unfoldable pub keepsEndsBy : Version → Mode → Bool
 keepsEndsBy Xcdr1 mode = false
 keepsEndsBy Xcdr2 Crate = false
@@ -19,6 +19,7 @@ keepsEndsBy Xcdr2 Standard = true
 abbrev pub keepsEnds : Settings → Bool
 keepsEnds set = keepsEndsBy (set .version) (set .mode)
 
--- order 1: "A read that would cross such an end is 1." So what stands behind it is read from the data up to there, whose own end it is then
+-- order 1: "A read that would cross such an end is 1." So what a DHEADER or a header begins is read from the data up to its end, where the data then
+-- ends too
 unfoldable pub cutAt : Settings → List ℕ → ℕ → List ℕ
 cutAt set s end = pick (keepsEnds set) (take end s) s

@@ -29,7 +29,7 @@ pub struct Settings {
 }
 
 impl Settings {
-    // Whether an end that a DHEADER or a member's header tells is kept: what stands behind it is then read from the data up to there.
+    // Whether an end that a DHEADER or a member's header tells is kept: what it begins is then read from the data up to there.
     pub fn keeps_ends(self) -> bool
         ensures { λ r. ⌜ r ≡ keepsEnds self ⌝ }
     {
