@@ -44,7 +44,7 @@ object() { # REPO LOG
     cat >"$repo/crates/feed/src/main.rt" <<'END'
 fn main() {
     let mut table = [0u64; 4];
-    io::print_decimal(1, sinotayam::c::sinotayam_read(b"", 0, b"", &mut table));
+    io::print_decimal(1, sinotayam::c::sinotayam_read(b"", 0, b"", 0, &mut table));
 }
 END
     printf 8 >"$repo/crates/feed/stdout"
@@ -76,7 +76,7 @@ END
 texts() { # DIR
     rm -rf "$1"
     crate_text "$1/xtypes"
-    cp "$beside"/src/*.rs "$1/"
+    cp -r "$beside"/src/. "$1/"
 }
 
 # An overflow in the crate's arithmetic is a panic, and shows as a difference.

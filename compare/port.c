@@ -1,7 +1,7 @@
 // The port's side: reads cases from standard input, hands each to the C interface, writes the answers. No header is included, so that
 // the kit's own clang compiles it where the machine has no other one for x86-64.
 //   in   1, length u32, book           the book of the messages that follow
-//        2, root u16, words u32, length u32, message
+//        2, root u16, standard u8, words u32, length u32, message
 //   out  for each message: answer u64 (rows * 256 + number), marks u8, and the rows if the number is 0
 //        marks: 1 the table is zero after the last row; 2 the prepared reading gives the same answer and the same table
 // All numbers little-endian.
@@ -17,28 +17,28 @@ void exit(int);
 #ifdef UNPROVED
 // Functions of an object that nothing proved: there a slice is the address of a pair.
 struct slice { const void *at; u64 length; };
-u64 unproved_read(struct slice *, u16, struct slice *, struct slice *);
+u64 unproved_read(struct slice *, u16, struct slice *, u8, struct slice *);
 u8 unproved_prepare(struct slice *, struct slice *);
-u64 unproved_read_prepared(struct slice *, struct slice *, u16, struct slice *, struct slice *);
-static u64 sinotayam_read(const u8 *b, u64 bl, u16 root, const u8 *m, u64 ml, u64 *t, u64 tl)
+u64 unproved_read_prepared(struct slice *, struct slice *, u16, struct slice *, u8, struct slice *);
+static u64 sinotayam_read(const u8 *b, u64 bl, u16 root, const u8 *m, u64 ml, u8 standard, u64 *t, u64 tl)
 {
     struct slice x = { b, bl }, y = { m, ml }, z = { t, tl };
-    return unproved_read(&x, root, &y, &z);
+    return unproved_read(&x, root, &y, standard, &z);
 }
 static u8 sinotayam_prepare(const u8 *b, u64 bl, u32 *i, u64 il)
 {
     struct slice x = { b, bl }, y = { i, il };
     return unproved_prepare(&x, &y);
 }
-static u64 sinotayam_read_prepared(const u8 *b, u64 bl, const u32 *i, u64 il, u16 root, const u8 *m, u64 ml, u64 *t, u64 tl)
+static u64 sinotayam_read_prepared(const u8 *b, u64 bl, const u32 *i, u64 il, u16 root, const u8 *m, u64 ml, u8 standard, u64 *t, u64 tl)
 {
     struct slice x = { b, bl }, i2 = { i, il }, y = { m, ml }, z = { t, tl };
-    return unproved_read_prepared(&x, &i2, root, &y, &z);
+    return unproved_read_prepared(&x, &i2, root, &y, standard, &z);
 }
 #else
-u64 sinotayam_read(const u8 *, u64, u16, const u8 *, u64, u64 *, u64);
+u64 sinotayam_read(const u8 *, u64, u16, const u8 *, u64, u8, u64 *, u64);
 u8 sinotayam_prepare(const u8 *, u64, u32 *, u64);
-u64 sinotayam_read_prepared(const u8 *, u64, const u32 *, u64, u16, const u8 *, u64, u64 *, u64);
+u64 sinotayam_read_prepared(const u8 *, u64, const u32 *, u64, u16, const u8 *, u64, u8, u64 *, u64);
 #endif
 
 #define WORDS (1 << 20)
@@ -97,19 +97,20 @@ static u32 number(int n)
 static void one(u64 book_length)
 {
     u16 root = number(2);
+    u8 standard = number(1);
     u32 words = number(4), length = number(4);
     if (words > WORDS || length > BYTES || !get(message, length))
         exit(4);
     for (u32 i = 0; i < words; i++)
         table[i] = again[i] = 0x5a5a5a5a5a5a5a5a + i;
-    u64 answer = sinotayam_read(book, book_length, root, message, length, table, words);
+    u64 answer = sinotayam_read(book, book_length, root, message, length, standard, table, words);
     u64 rows = answer >> 8;
     u8 marks = 1 | 2;
     for (u64 i = rows * 4; i < words; i++)
         if (table[i])
             marks &= ~1;
     u8 prepared = sinotayam_prepare(book, book_length, index, 65);
-    u64 second = sinotayam_read_prepared(book, book_length, index, 65, root, message, length, again, words);
+    u64 second = sinotayam_read_prepared(book, book_length, index, 65, root, message, length, standard, again, words);
     if (second != answer || (prepared != 0) != ((answer & 255) == 8))
         marks &= ~2;
     for (u64 i = 0; i < words; i++)

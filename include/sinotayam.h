@@ -29,16 +29,23 @@ enum {
     SINOTAYAM_UNFIT = 16
 };
 
+/* How XCDR2 is read, which each reading call is told: as the crate dust_dds does, or as DDS-XTypes 1.3 does (any other number is that too).
+   XCDR1 is read alike in both. */
+enum {
+    SINOTAYAM_CRATE = 0,
+    SINOTAYAM_STANDARD = 1
+};
+
 /* The words of a row: kind, id, a, b. */
 #define SINOTAYAM_ROW 4
 
 /* The words in which the index of any book has room. */
 #define SINOTAYAM_INDEX 65
 
-/* Reads a message of the book's type `root`. Returns rows * 256 + number. The table holds the rows and then zeros; on a refusal it is all zero. */
-uint64_t sinotayam_read(const uint8_t *book, size_t book_len, uint16_t root, const uint8_t *message, size_t message_len, uint64_t *table, size_t words);
+/* Reads a message of the book's type `root`, in the mode that `standard` says. Returns rows * 256 + number. The table holds the rows and then zeros; on a refusal it is all zero. */
+uint64_t sinotayam_read(const uint8_t *book, size_t book_len, uint16_t root, const uint8_t *message, size_t message_len, uint8_t standard, uint64_t *table, size_t words);
 
-/* The type check: 0 where every reading of the book's type `root` gives 0, 1, 2, 10, 13 or 14; 8 for a book that breaks a rule, 9 for a root
+/* The type check: 0 where every reading of the book's type `root`, in either mode, gives 0, 1, 2, 10, 13 or 14; 8 for a book that breaks a rule, 9 for a root
    that is none of its types, else 16. */
 uint8_t sinotayam_check(const uint8_t *book, size_t book_len, uint16_t root);
 
@@ -48,7 +55,7 @@ uint8_t sinotayam_check(const uint8_t *book, size_t book_len, uint16_t root);
 uint8_t sinotayam_prepare(const uint8_t *book, size_t book_len, uint32_t *index, size_t index_len);
 
 /* The same as sinotayam_read, with an index for which sinotayam_prepare returned 0 on the same book: the book is not judged again. */
-uint64_t sinotayam_read_prepared(const uint8_t *book, size_t book_len, const uint32_t *index, size_t index_len, uint16_t root, const uint8_t *message, size_t message_len, uint64_t *table, size_t words);
+uint64_t sinotayam_read_prepared(const uint8_t *book, size_t book_len, const uint32_t *index, size_t index_len, uint16_t root, const uint8_t *message, size_t message_len, uint8_t standard, uint64_t *table, size_t words);
 
 /* Whether row number `row` of the table is a text whose place is inside the data, which is the message without its first four bytes: 0 or 15.
    Where it is 0, the text is the b bytes (kind 16) or 2 * b bytes (kind 17) from data + a on. */

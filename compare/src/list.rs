@@ -1,9 +1,10 @@
-// The list that the program `replay` reads, and what it must print: entries of rows u16, book, root u16, message length u32, message
-// (big-endian), and for each a line `answer N rows K` and its rows.
+// The list that the program `replay` reads, and what it must print: entries of mode u8 (0 the crate's, 1 the standard's), rows u16, book, root u16,
+// message length u32, message (big-endian), and for each a line `answer N rows K` and its rows.
 use crate::book::decode;
 use crate::gen::Case;
 use crate::oracle::Oracle;
 use crate::port::Reply;
+use crate::rules::Mode;
 
 pub struct Entry {
     /// The rows of the table.
@@ -17,7 +18,8 @@ pub fn fits(case: &Case) -> bool {
 }
 
 pub fn bytes(e: &Entry) -> Vec<u8> {
-    let mut all = (e.rows as u16).to_be_bytes().to_vec();
+    let mut all = vec![e.case.mode as u8];
+    all.extend((e.rows as u16).to_be_bytes());
     all.extend(&e.case.book);
     all.extend(e.case.root.to_be_bytes());
     all.extend((e.case.message.len() as u32).to_be_bytes());
@@ -46,6 +48,7 @@ fn take<'a>(rest: &mut &'a [u8], n: usize) -> &'a [u8] {
 pub fn entries(mut rest: &[u8]) -> Vec<Entry> {
     let mut all = Vec::new();
     while !rest.is_empty() {
+        let mode = if number(&mut rest, 1) == 0 { Mode::Crate } else { Mode::Standard };
         let rows = number(&mut rest, 2);
         let size = number(&mut &rest[..], 4);
         let book = take(&mut rest, size).to_vec();
@@ -53,7 +56,7 @@ pub fn entries(mut rest: &[u8]) -> Vec<Entry> {
         let size = number(&mut rest, 4);
         let message = take(&mut rest, size).to_vec();
         let types = decode(&book).unwrap_or_default();
-        all.push(Entry { rows, case: Case { types, book, root, message, way: "stored" } });
+        all.push(Entry { rows, case: Case { types, book, root, message, mode, way: "stored", expected: None } });
     }
     all
 }
@@ -71,16 +74,16 @@ pub fn replies(said: &str) -> Vec<Reply> {
     all
 }
 
-/// Where the crate says something else than what is stored: the entry's number, and how.
+/// Where the crate, or the rules where it has no say, say something else than what is stored: the entry's number, and how.
 pub fn differs(folder: &str) -> Option<String> {
     let input = std::fs::read(format!("{folder}/stdin")).expect("stdin");
     let output = std::fs::read_to_string(format!("{folder}/stdout")).expect("stdout");
     let (entries, replies) = (entries(&input), replies(&output));
     assert_eq!(entries.len(), replies.len(), "entries and answers");
     entries.iter().zip(&replies).enumerate().find_map(|(i, (e, said))| {
-        // the crate knows no book, root, long message or table
-        if matches!(said.number, 8..=10 | 13) {
-            return None;
+        if !crate::asks_the_crate(&e.case, said.number) {
+            let r = crate::by_rules_in(&e.case, e.rows);
+            return ((r.number, &r.rows) != (said.number, &said.rows)).then(|| format!("entry {}: the rules give {}", i + 1, r.number));
         }
         let crate_says = Oracle::new(&e.case.types).read(e.case.root, &e.case.message);
         crate::agree::differs(&crate_says, said.number, &said.rows, &e.case.message).map(|why| format!("entry {}: {why}", i + 1))

@@ -14,6 +14,7 @@ mod book;
 mod books;
 mod broken;
 mod encode;
+mod evolve;
 mod gen;
 mod list;
 mod memory;
@@ -23,8 +24,10 @@ mod rng;
 mod rules;
 mod sample;
 mod shrink;
+mod standard;
 mod tally;
 mod watch;
+mod writer;
 mod written;
 #[allow(dead_code, unused)]
 pub mod xtypes;
@@ -32,7 +35,7 @@ pub mod xtypes;
 use gen::Case;
 use oracle::Oracle;
 use port::{Batch, Port, Reply};
-use rules::Reading;
+use rules::{Mode, Reading};
 use tally::Tally;
 
 /// The most rows of a table.
@@ -48,7 +51,15 @@ pub fn by_rules_in(case: &Case, rows: usize) -> Reading {
     if case.types.is_empty() {
         return rules::refused(8);
     }
-    rules::read(&case.types, case.root, &case.message, rows)
+    rules::read(&case.types, case.root, &case.message, case.mode, rows)
+}
+
+/// A random case of a mode.
+pub fn made(mode: Mode, seed: u64, number: u64) -> Case {
+    match mode {
+        Mode::Crate => gen::case(seed, number),
+        Mode::Standard => standard::case(seed, number),
+    }
 }
 
 /// The words of a table that has room for a reading, and some to spare.
@@ -70,18 +81,26 @@ pub fn differs(case: &Case, rules: &Reading, got: &Reply) -> Option<String> {
     if let Some(at) = (0..rules.rows.len()).find(|i| rules.rows[*i] != got.rows[*i]) {
         return Some(format!("row {at}: the rules {:?}, the port {:?}", rules.rows[at], got.rows[at]));
     }
-    // the crate knows no book, root, long message or table
-    if matches!(got.number, 8..=10 | 13) {
+    if let Some(rows) = case.expected.as_ref().filter(|rows| **rows != got.rows) {
+        return Some(format!("{}: the value that was written has {} rows, and the port gives {} with others", case.way, rows.len(), got.number));
+    }
+    if !asks_the_crate(case, got.number) {
         return None;
     }
     let crate_says = Oracle::new(&case.types).read(case.root, &case.message);
     agree::differs(&crate_says, got.number, &got.rows, &case.message)
 }
 
+/// Whether the crate has a say: it knows no book, root, long message or table, and XCDR2 as the standard reads it neither.
+pub fn asks_the_crate(case: &Case, number: u8) -> bool {
+    let xcdr2 = case.message.get(1).is_some_and(|id| *id > 3);
+    !(matches!(number, 8..=10 | 13) || case.mode == Mode::Standard && xcdr2)
+}
+
 pub fn ask(port: &Port, case: &Case, words: usize) -> Reply {
     let mut b = Batch::default();
     b.book(&case.book);
-    b.message(case.root, words, &case.message);
+    b.message(case.root, case.mode, words, &case.message);
     port.run(&b).remove(0)
 }
 
@@ -94,16 +113,20 @@ fn show(case: &Case, why: &str) {
     for (i, t) in case.types.iter().enumerate() {
         println!("  {i}: {t:?}");
     }
-    println!("  book {}\n  root {}\n  message {}", hex(&case.book), case.root, hex(&case.message));
+    println!("  book {}\n  root {}\n  message {}\n  {:?} mode", hex(&case.book), case.root, hex(&case.message), case.mode);
+    if let Some(rows) = &case.expected {
+        println!("  as it was written: {rows:?}");
+    }
 }
 
-/// `run` and `first` with COUNT SEED CASES FOLDER PORT.., `list` with the list's folder, `sample` with COUNT SEED CASES and that folder.
+/// `run`, `standard`, `first` and `first-standard` with COUNT SEED CASES FOLDER PORT.., `list` with the list's folder, `sample` with COUNT SEED CASES and that folder.
 fn main() {
     let args: Vec<String> = std::env::args().collect();
     match args[1].as_str() {
-        "run" => Run::new(&args, false).all(),
-        "first" => {
-            let mut run = Run::new(&args, true);
+        "run" => Run::new(&args, Mode::Crate, false).all(),
+        "standard" => Run::new(&args, Mode::Standard, false).all(),
+        first @ ("first" | "first-standard") => {
+            let mut run = Run::new(&args, if first == "first" { Mode::Crate } else { Mode::Standard }, true);
             watch::start(60 + run.total / 1000);
             run.all()
         }
@@ -123,18 +146,20 @@ struct Run {
     port: Port,
     tally: Tally,
     differences: u64,
+    shown: u64,
     total: u64,
     seed: u64,
     cases: String,
+    mode: Mode,
     /// Ends at the first difference, and looks at no table: the crate has none.
     first: bool,
 }
 
 impl Run {
-    fn new(args: &[String], first: bool) -> Run {
+    fn new(args: &[String], mode: Mode, first: bool) -> Run {
         let port = Port { folder: args[5].clone(), command: args[6..].to_vec() };
         let (total, seed) = (args[2].parse().expect("COUNT"), args[3].parse().expect("SEED"));
-        Run { port, tally: Tally::default(), differences: 0, total, seed, cases: args[4].clone(), first }
+        Run { port, tally: Tally::default(), differences: 0, shown: 0, total, seed, cases: args[4].clone(), mode, first }
     }
 
     fn all(&mut self) {
@@ -142,22 +167,23 @@ impl Run {
         let mut at = 0;
         while at < self.total {
             let n = (self.total - at).min(5000);
-            let cases: Vec<Case> = (at..at + n).map(|i| gen::case(self.seed, i)).collect();
+            let cases: Vec<Case> = (at..at + n).map(|i| made(self.mode, self.seed, i)).collect();
             self.window(cases, self.seed.wrapping_add(at));
             at += n;
         }
-        self.tally.print();
-        println!("{} cases with seed {}: {} differences", self.total, self.seed, self.differences);
+        self.tally.print(&[self.mode]);
+        let which = if self.mode == Mode::Crate { "" } else { " (standard mode)" };
+        println!("{} cases with seed {}: {} differences{which}", self.total, self.seed, self.differences);
         std::process::exit((self.differences > 0) as i32);
     }
 
     fn written(&mut self) {
-        let all = written::cases(&self.cases);
+        let all = written::cases(&self.cases, self.mode);
         for w in &all {
             let r = by_rules(&w.case);
-            if (r.number, r.rows.len()) != (w.number, w.rows) {
+            if let Some(said) = w.differs(&r) {
                 self.differences += 1;
-                println!("DIFFERENCE: line {}: {}\n  the rules give {} {}", w.line, w.text, r.number, r.rows.len());
+                println!("DIFFERENCE: line {}: {}\n  the rules give {said}", w.line, w.text);
             }
         }
         println!("{} written cases", all.len());
@@ -171,7 +197,7 @@ impl Run {
         let mut batch = Batch::default();
         for (c, r) in &fit {
             batch.book(&c.book);
-            batch.message(c.root, words_for(r), &c.message);
+            batch.message(c.root, c.mode, words_for(r), &c.message);
         }
         for ((c, r), got) in fit.iter().zip(self.port.run(&batch)) {
             self.tally.reading(c, r);
@@ -190,7 +216,8 @@ impl Run {
 
     fn differ(&mut self, c: &Case) {
         self.differences += 1;
-        if self.differences > 5 {
+        self.shown += 1;
+        if self.shown > 5 {
             return;
         }
         let small = shrink::shrink(&self.port, c);
@@ -211,14 +238,14 @@ impl Run {
             batch.book(&c.book);
             for k in 0..=r.needed + 1 {
                 if k < 12 || k + 2 > r.needed || rng.chance(10) {
-                    batch.message(c.root, 4 * k + rng.below(4), &c.message);
+                    batch.message(c.root, c.mode, 4 * k + rng.below(4), &c.message);
                     asked.push((c, r, k));
                 }
             }
         }
         for ((c, r, k), got) in asked.into_iter().zip(self.port.run(&batch)) {
             let same = if k < r.needed { got.number == 13 && got.count == 0 } else { got.number == r.number && got.rows == r.rows };
-            self.tally.table(k, r.needed);
+            self.tally.table(c.mode, k, r.needed);
             if !(same && got.cleared && got.prepared) {
                 self.differences += 1;
                 show(c, &format!("a table of {k} rows, {} needed: {} with {} rows", r.needed, got.number, got.count));

@@ -1,4 +1,5 @@
 // The port's program, run over a file of cases.
+use crate::rules::Mode;
 use std::io::Write;
 use std::process::{Command, Stdio};
 
@@ -32,9 +33,10 @@ impl Batch {
         self.bytes.extend(book);
     }
 
-    pub fn message(&mut self, root: u16, words: usize, message: &[u8]) {
+    pub fn message(&mut self, root: u16, mode: Mode, words: usize, message: &[u8]) {
         self.bytes.push(2);
         self.bytes.extend(root.to_le_bytes());
+        self.bytes.push(mode as u8);
         self.bytes.extend((words as u32).to_le_bytes());
         self.bytes.extend((message.len() as u32).to_le_bytes());
         self.bytes.extend(message);

@@ -1,6 +1,17 @@
 // Document 01's reading rules, written a third time: plain Rust, with rows and room. The crate has neither, so the numbers that the port
-// adds, a text's place and the rows that a reading needs are checked against these; all else is checked against the crate.
-use crate::book::{is_primitive, width, Member, Type, APPENDABLE, DEFAULT, MUTABLE, OPTIONAL, USE_DEFAULT};
+// adds, a text's place and the rows that a reading needs are checked against these; all else is checked against the crate. Order 1's second mode,
+// XCDR2 as the standard reads it, stands in the same text: the mode is asked where the two differ, and the port is held to this alone there.
+mod leaves;
+
+use crate::book::{is_primitive, Member, Type, APPENDABLE, DEFAULT, FINAL, MUTABLE, OPTIONAL, USE_DEFAULT};
+pub use leaves::stored;
+
+/// How XCDR2 is read; XCDR1 is read alike in both.
+#[derive(Clone, Copy, Debug, PartialEq)]
+pub enum Mode {
+    Crate,
+    Standard,
+}
 
 /// Answer 1 may be absorbed; every other number ends the reading.
 enum Fail {
@@ -21,9 +32,12 @@ pub struct Reading {
 
 struct Reader<'a> {
     types: &'a [Type],
+    /// It ends where reading ends: behind the value that is open, in the standard's mode.
     data: &'a [u8],
     big: bool,
     xcdr2: bool,
+    /// XCDR2, as the standard reads it.
+    standard: bool,
     pos: usize,
     origin: usize,
     rows: Vec<[u64; 4]>,
@@ -46,7 +60,7 @@ pub fn refused(number: u8) -> Reading {
 }
 
 /// Reads a message of a good book. `most` is the capacity.
-pub fn read(types: &[Type], root: u16, message: &[u8], most: usize) -> Reading {
+pub fn read(types: &[Type], root: u16, message: &[u8], mode: Mode, most: usize) -> Reading {
     if root as usize >= types.len() {
         return refused(9);
     }
@@ -64,6 +78,7 @@ pub fn read(types: &[Type], root: u16, message: &[u8], most: usize) -> Reading {
         data: &message[4..],
         big: message[1] % 2 == 0,
         xcdr2: message[1] > 3,
+        standard: message[1] > 3 && mode == Mode::Standard,
         pos: 0,
         origin: 0,
         rows: Vec::new(),
@@ -83,140 +98,7 @@ pub fn read(types: &[Type], root: u16, message: &[u8], most: usize) -> Reading {
     Reading { number, rows: r.rows, needed: r.needed, marks: r.marks }
 }
 
-fn signed(kind: u8) -> bool {
-    matches!(kind, 3 | 4 | 5 | 12)
-}
-
-/// The code under which a scalar is stored.
-fn stored(t: &Type) -> u8 {
-    match t.kind {
-        2 => 13,
-        19 => match t.mask_width() {
-            1 => 13,
-            2 => 6,
-            4 => 7,
-            _ => 8,
-        },
-        k => k,
-    }
-}
-
-impl Reader<'_> {
-    fn mark(&mut self, what: &'static str) {
-        if !self.marks.contains(&what) {
-            self.marks.push(what);
-        }
-    }
-
-    fn step(&mut self) -> Done<()> {
-        self.steps += 1;
-        if self.steps > STEPS {
-            return Err(Refused(TOO_MANY_STEPS));
-        }
-        Ok(())
-    }
-
-    fn seek(&mut self, n: usize) -> Done<()> {
-        self.step()?;
-        if self.pos + n > self.data.len() {
-            return Err(Short);
-        }
-        self.pos += n;
-        Ok(())
-    }
-
-    fn align(&mut self, n: usize) -> Done<()> {
-        let n = if self.xcdr2 { n.min(4) } else { n };
-        self.seek((self.pos - self.origin).next_multiple_of(n) - (self.pos - self.origin))
-    }
-
-    fn number(&mut self, n: usize) -> Done<u128> {
-        self.align(n)?;
-        self.seek(n)?;
-        let bytes = &self.data[self.pos - n..self.pos];
-        let join = |x: u128, b: &u8| x << 8 | *b as u128;
-        Ok(if self.big { bytes.iter().fold(0, join) } else { bytes.iter().rev().fold(0, join) })
-    }
-
-    fn word(&mut self) -> Done<usize> {
-        Ok(self.number(4)? as usize)
-    }
-
-    fn boolean(&mut self) -> Done<bool> {
-        match self.number(1)? {
-            0 => Ok(false),
-            1 => Ok(true),
-            _ => Err(Refused(2)),
-        }
-    }
-
-    /// Room for one row more.
-    fn room(&mut self) -> Done<()> {
-        self.step()?;
-        self.needed = self.needed.max(self.rows.len() + 1);
-        if self.rows.len() < self.most {
-            Ok(())
-        } else {
-            Err(Refused(13))
-        }
-    }
-
-    fn row(&mut self, kind: u8, id: u64, a: u64, b: u64) -> Done<()> {
-        self.room()?;
-        self.rows.push([kind as u64, id, a, b]);
-        Ok(())
-    }
-
-    /// A value that opens nothing: a primitive, a bitmask or a text.
-    fn scalar(&mut self, t: &Type, id: u64) -> Done<()> {
-        let kind = stored(t);
-        match kind {
-            1 => {
-                let b = self.boolean()?;
-                self.row(1, id, b as u64, 0)
-            }
-            11 => {
-                let x = self.number(16)?;
-                self.row(11, id, x as u64, (x >> 64) as u64)
-            }
-            16 => {
-                let n = self.word()?;
-                let start = self.pos;
-                let n = n.saturating_sub(1);
-                self.seek(n)?;
-                self.seek(1)?;
-                if std::str::from_utf8(&self.data[start..start + n]).is_err() {
-                    return Err(Refused(2));
-                }
-                self.row(16, id, start as u64, n as u64)
-            }
-            17 => self.text16(id),
-            k => {
-                let n = width(k);
-                let x = self.number(n)? as u64;
-                let up = 64 - 8 * n as u32;
-                let x = if signed(k) { ((x << up) as i64 >> up) as u64 } else { x };
-                self.row(k, id, x, 0)
-            }
-        }
-    }
-
-    fn text16(&mut self, id: u64) -> Done<()> {
-        let n = self.word()?;
-        let start = self.pos;
-        if n % 2 != 0 {
-            return Err(Refused(2));
-        }
-        let mut units = Vec::new();
-        for _ in 0..n / 2 {
-            units.push(self.number(2)? as u16);
-        }
-        if char::decode_utf16(units).any(|c| c.is_err()) {
-            return Err(Refused(2));
-        }
-        self.row(17, id, start as u64, n as u64 / 2)
-    }
-
+impl<'a> Reader<'a> {
     /// A structure, enum or union.
     fn nested(&mut self, ty: u16, id: u64, depth: usize) -> Done<()> {
         let types = self.types;
@@ -229,28 +111,76 @@ impl Reader<'_> {
         }
         let at = self.rows.len();
         self.row(t.kind, id, ty as u64, 0)?;
-        match (t.kind, t.ext) {
-            (21, _) => self.enumeration(t)?,
-            (22, MUTABLE) => self.mutable_structure(t, depth)?,
-            (22, _) => {
-                self.header_of(t)?;
-                self.structure(t, depth)?
-            }
-            (_, MUTABLE) => self.mutable_union(t, depth)?,
-            _ => {
-                self.header_of(t)?;
-                self.union(t, depth)?
-            }
+        match t.kind {
+            21 => self.enumeration(t)?,
+            _ if self.xcdr2 && t.ext != FINAL => self.delimited(t, depth)?,
+            _ => self.body(t, depth)?,
         }
         self.rows[at][3] = (self.rows.len() - at - 1) as u64;
         Ok(())
     }
 
-    fn header_of(&mut self, t: &Type) -> Done<()> {
-        if self.xcdr2 && t.ext == APPENDABLE {
-            self.word()?;
+    /// A structure or union behind its DHEADER, where it has one.
+    fn body(&mut self, t: &Type, depth: usize) -> Done<()> {
+        match (t.kind, t.ext) {
+            (22, MUTABLE) => self.mutable_structure(t, depth),
+            (22, _) => self.structure(t, depth),
+            (_, MUTABLE) => self.mutable_union(t, depth),
+            _ => self.union(t, depth),
+        }
+    }
+
+    /// An Appendable or Mutable structure or union of XCDR2: its DHEADER, then itself.
+    fn delimited(&mut self, t: &Type, depth: usize) -> Done<()> {
+        let n = match self.word() {
+            // the crate does not hear of it where the union is Mutable
+            Err(Short) if !self.standard && t.kind == 23 && t.ext == MUTABLE => {
+                self.mark("Mutable union's DHEADER unheard");
+                0
+            }
+            Err(Short) => {
+                self.mark("DHEADER short");
+                return Err(Short);
+            }
+            other => other?,
+        };
+        if self.standard {
+            let end = self.end_of(n)?;
+            self.cut_at(end, |r| r.body(t, depth))?;
+            if self.pos < end {
+                self.mark(if t.ext == MUTABLE { "Mutable value passed by its DHEADER" } else { "Appendable value with bytes left" });
+            }
+            self.pos = end;
+            return Ok(());
+        }
+        let end = self.pos + n;
+        self.body(t, depth)?;
+        // in the crate a Mutable structure alone stands at its end, wherever that is
+        if t.kind == 22 && t.ext == MUTABLE {
+            self.pos = end;
+            if end > self.data.len() {
+                self.mark("past the end");
+            }
         }
         Ok(())
+    }
+
+    /// Where the DHEADER of n that was just read says that its value ends: in the data, and in the value around it.
+    fn end_of(&mut self, n: usize) -> Done<usize> {
+        if self.pos + n > self.data.len() {
+            self.mark("DHEADER past the end");
+            return Err(Refused(2));
+        }
+        Ok(self.pos + n)
+    }
+
+    /// Reads from the data cut at a place; positions stay what they are.
+    fn cut_at(&mut self, end: usize, read: impl FnOnce(&mut Self) -> Done<()>) -> Done<()> {
+        let whole = self.data;
+        self.data = &whole[..end];
+        let result = read(self);
+        self.data = whole;
+        result
     }
 
     fn enumeration(&mut self, t: &Type) -> Done<()> {
@@ -276,20 +206,11 @@ impl Reader<'_> {
     }
 
     fn mutable_structure(&mut self, t: &Type, depth: usize) -> Done<()> {
-        if self.xcdr2 {
-            let n = self.word()?;
-            let start = self.pos;
-            for m in &t.members {
-                self.lookup(m, depth)?;
-            }
-            self.pos = start + n;
-            if self.pos > self.data.len() {
-                self.mark("past the end");
-            }
-            return Ok(());
-        }
         for m in &t.members {
             self.lookup(m, depth)?;
+        }
+        if self.xcdr2 {
+            return Ok(());
         }
         // the end marker, of any length; no alignment first
         loop {
@@ -370,6 +291,12 @@ impl Reader<'_> {
             Err(other) => return Err(other),
         };
         self.mark(["LC 0", "LC 1", "LC 2", "LC 3", "LC 4", "LC 5", "LC 6", "LC 7"][lc]);
+        if self.standard {
+            return self.found(m, lc, n, depth);
+        }
+        if lc == 5 {
+            self.pos -= 4;
+        }
         let t = &types[m.ty as usize];
         if t.kind == 25 && is_primitive(types[t.element as usize].kind) {
             let size = match types[t.element as usize].kind {
@@ -383,15 +310,28 @@ impl Reader<'_> {
         self.value(m, depth)
     }
 
+    /// A member of the standard's mode behind its header: n bytes, and with LC 5 to 7 NEXTINT before them too. It has no others.
+    fn found(&mut self, m: &Member, lc: usize, n: usize, depth: usize) -> Done<()> {
+        let end = self.data.len().min(self.pos + n);
+        if lc >= 5 {
+            self.pos -= 4;
+        }
+        let result = self.cut_at(end, |r| r.value(m, depth));
+        match result {
+            Ok(()) if self.pos < end => self.mark("member with bytes left"),
+            Err(Short) => self.mark("member short of its value"),
+            _ => {}
+        }
+        result
+    }
+
+    /// The next header of this id: its LC, and the length that it tells.
     fn seek2(&mut self, wanted: u32) -> Done<(usize, usize)> {
         loop {
             let header = self.word()?;
             let (id, lc) = (header & 0x0fff_ffff, header >> 28 & 7);
             let n = if lc < 4 { 1 << lc } else { self.word()? * [1, 1, 4, 8][lc - 4] };
             if id == wanted as usize {
-                if lc == 5 {
-                    self.pos -= 4;
-                }
                 return Ok((lc, n));
             }
             self.seek(n)?;
@@ -407,15 +347,27 @@ impl Reader<'_> {
             0 => Ok(()),
             15 | 18 | 20 | 24 | 27 => Err(Refused(11)),
             21..=23 => self.nested(m.ty, id, depth + 1),
-            25 | 26 => {
-                if self.xcdr2 && !is_primitive(types[t.element as usize].kind) {
-                    self.word()?;
+            25 | 26 if self.xcdr2 && !is_primitive(types[t.element as usize].kind) => {
+                let n = self.word()?;
+                if !self.standard {
+                    return self.list(t, id, depth);
                 }
-                let n = if t.kind == 26 { t.bound.unwrap_or(0) as usize } else { self.word()? };
-                self.elements(t, id, n, depth)
+                let end = self.end_of(n)?;
+                self.cut_at(end, |r| r.list(t, id, depth))?;
+                if self.pos != end {
+                    self.mark("list short of its DHEADER's end");
+                    return Err(Refused(2));
+                }
+                Ok(())
             }
+            25 | 26 => self.list(t, id, depth),
             _ => self.scalar(t, id),
         }
+    }
+
+    fn list(&mut self, t: &Type, id: u64, depth: usize) -> Done<()> {
+        let n = if t.kind == 26 { t.bound.unwrap_or(0) as usize } else { self.word()? };
+        self.elements(t, id, n, depth)
     }
 
     fn elements(&mut self, t: &Type, id: u64, n: usize, depth: usize) -> Done<()> {
@@ -453,9 +405,6 @@ impl Reader<'_> {
     }
 
     fn mutable_union(&mut self, t: &Type, depth: usize) -> Done<()> {
-        if self.xcdr2 && self.word().is_err() {
-            self.mark("Mutable union's DHEADER unheard");
-        }
         let at = self.rows.len();
         self.lookup(&t.members[0], depth)?;
         let m = self.selected(t, at)?;

@@ -15,7 +15,7 @@ fn still(port: &Port, c: &Case) -> bool {
 fn steps(c: &Case) -> Vec<Case> {
     let mut all = Vec::new();
     let mut add = |change: &dyn Fn(&mut Case)| {
-        let mut d = c.clone();
+        let mut d = Case { expected: None, ..c.clone() };
         change(&mut d);
         if d.types != c.types {
             d.book = crate::book::encode(&d.types);

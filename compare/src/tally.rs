@@ -1,6 +1,6 @@
 // How often each answer and each feature was reached.
 use crate::gen::Case;
-use crate::rules::Reading;
+use crate::rules::{Mode, Reading};
 use std::collections::BTreeMap;
 
 #[derive(Default)]
@@ -39,10 +39,9 @@ const KINDS: [&str; 28] = [
 
 const EXTENSIBILITY: [&str; 3] = ["Final", "Appendable", "Mutable"];
 
-const MARKS: [&str; 26] = [
+const MARKS: [&str; 23] = [
     "ended early, Appendable",
     "ended early, UseDefault",
-    "past the end",
     "optional, present",
     "optional, absent",
     "XCDR1 lookup, found",
@@ -58,14 +57,26 @@ const MARKS: [&str; 26] = [
     "LC 5",
     "LC 6",
     "LC 7",
-    "found sequence of primitives",
-    "Mutable union's DHEADER unheard",
     "union, by label",
     "union, the last default",
     "union, UseDefault",
     "union, none selected",
     "needs more rows than it keeps",
     "opens at depth 16",
+];
+
+/// What the crate alone meets.
+const CRATE_MARKS: [&str; 3] = ["past the end", "found sequence of primitives", "Mutable union's DHEADER unheard"];
+
+/// What the standard's mode alone meets.
+const STANDARD_MARKS: [&str; 7] = [
+    "DHEADER short",
+    "DHEADER past the end",
+    "Appendable value with bytes left",
+    "Mutable value passed by its DHEADER",
+    "list short of its DHEADER's end",
+    "member with bytes left",
+    "member short of its value",
 ];
 
 const WAYS: [&str; 11] = [
@@ -82,6 +93,24 @@ const WAYS: [&str; 11] = [
     "book damaged",
 ];
 
+/// How messages of the standard's mode are made, besides.
+const STANDARD_WAYS: [&str; 14] = [
+    "same type",
+    "evolved type",
+    "DHEADER one too large",
+    "DHEADER past the value around it",
+    "DHEADER up to the end around it",
+    "DHEADER too small",
+    "DHEADER of any value",
+    "NEXTINT too large",
+    "NEXTINT too small",
+    "length too large",
+    "length too small",
+    "length of any value",
+    "another LC",
+    "another id",
+];
+
 fn version(id: u8) -> &'static str {
     match id {
         0 | 2 => "XCDR1 big-endian",
@@ -92,28 +121,31 @@ fn version(id: u8) -> &'static str {
 }
 
 impl Tally {
-    fn add(&mut self, what: String) {
-        *self.0.entry(what).or_default() += 1;
+    fn add(&mut self, mode: Mode, what: String) {
+        *self.0.entry(named(mode, what)).or_default() += 1;
     }
 
     pub fn reading(&mut self, c: &Case, r: &Reading) {
-        self.add(format!("answer {:>2}", r.number));
+        self.add(c.mode, format!("answer {:>2}", r.number));
         let rule = crate::broken::BREAKS.contains(&c.way);
-        self.add(format!("{} {}", if rule { "book broken:" } else { "message" }, c.way));
+        self.add(c.mode, format!("{} {}", if rule { "book broken:" } else { "message" }, c.way));
+        if c.expected.is_some() {
+            self.add(c.mode, format!("read as it was written, {}", c.way));
+        }
         for m in &r.marks {
-            self.add(format!("reached {m}"));
+            self.add(c.mode, format!("reached {m}"));
         }
         if r.number == 0 && r.needed > r.rows.len() {
-            self.add("reached needs more rows than it keeps".into());
+            self.add(c.mode, "reached needs more rows than it keeps".into());
         }
         if c.message.len() >= 4 && c.message[0] == 0 && !matches!(r.number, 8..=10) {
-            self.add(format!("identifier 00{:02x}", c.message[1]));
+            self.add(c.mode, format!("identifier 00{:02x}", c.message[1]));
         }
         for i in 0..r.rows.len() {
             self.row(c, r, i);
         }
         if deepest(r) == 16 {
-            self.add("reached opens at depth 16".into());
+            self.add(c.mode, "reached opens at depth 16".into());
         }
     }
 
@@ -128,13 +160,13 @@ impl Tally {
         match kind {
             21..=23 => {
                 let t = &c.types[a as usize];
-                self.add(format!("stored {} {}, {}", EXTENSIBILITY[t.ext as usize], KINDS[kind as usize], version(c.message[1])));
+                self.add(c.mode, format!("stored {} {}, {}", EXTENSIBILITY[t.ext as usize], KINDS[kind as usize], version(c.message[1])));
             }
             25 => {
                 let n = if b == 0 { "empty" } else { "filled" };
-                self.add(format!("stored list of {}, {n}", KINDS[a as usize]));
+                self.add(c.mode, format!("stored list of {}, {n}", KINDS[a as usize]));
             }
-            _ => self.add(format!("stored {}", KINDS[kind as usize])),
+            _ => self.add(c.mode, format!("stored {}", KINDS[kind as usize])),
         }
     }
 
@@ -142,13 +174,22 @@ impl Tally {
         self.0.keys()
     }
 
-    pub fn table(&mut self, k: usize, needed: usize) {
-        self.add(format!("table {}", if k < needed { "too small" } else { "of enough rows" }));
+    pub fn table(&mut self, mode: Mode, k: usize, needed: usize) {
+        self.add(mode, format!("table {}", if k < needed { "too small" } else { "of enough rows" }));
     }
 
-    fn wanted() -> Vec<String> {
+    fn wanted(mode: Mode) -> Vec<String> {
         let mut all: Vec<String> = [0, 1, 2, 3, 8, 9, 10, 11, 12, 13, 14].iter().map(|n| format!("answer {n:>2}")).collect();
         all.extend(WAYS.iter().map(|w| format!("message {w}")));
+        let marks: &[&str] = match mode {
+            Mode::Crate => &CRATE_MARKS,
+            Mode::Standard => {
+                all.extend(STANDARD_WAYS.iter().map(|w| format!("message {w}")));
+                all.extend(STANDARD_WAYS[..2].iter().map(|w| format!("read as it was written, {w}")));
+                &STANDARD_MARKS
+            }
+        };
+        all.extend(marks.iter().map(|w| format!("reached {w}")));
         all.extend(crate::broken::BREAKS.iter().map(|w| format!("book broken: {w}")));
         all.extend(MARKS.iter().map(|w| format!("reached {w}")));
         all.extend([0, 1, 2, 3, 6, 7, 8, 9, 10, 11].iter().map(|i| format!("identifier 00{i:02x}")));
@@ -165,18 +206,27 @@ impl Tally {
             }
         }
         all.extend(["table too small".to_string(), "table of enough rows".to_string()]);
-        all
+        all.into_iter().map(|w| named(mode, w)).collect()
     }
 
-    pub fn print(&self) {
+    /// All that was counted, and what the modes want and was not.
+    pub fn print(&self, modes: &[Mode]) {
         for (what, n) in &self.0 {
             println!("{n:>10}  {what}");
         }
-        for w in Self::wanted() {
+        for w in modes.iter().flat_map(|m| Self::wanted(*m)) {
             if !self.0.contains_key(&w) {
                 println!("NOT REACHED  {w}");
             }
         }
+    }
+}
+
+/// A feature's name, with the mode that reached it.
+pub fn named(mode: Mode, what: String) -> String {
+    match mode {
+        Mode::Crate => what,
+        Mode::Standard => format!("standard: {what}"),
     }
 }
 

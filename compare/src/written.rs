@@ -1,6 +1,8 @@
-// The written cases of cases.txt: one a line, `IDENTIFIER TYPE | DATA -> NUMBER ROWS`. The head of that file says how a type is written.
+// The written cases of cases.txt: one a line, `IDENTIFIER TYPE | DATA -> NUMBER ROWS`. The head of that file says how a type and an answer are
+// written.
 use crate::book::{encode, Member, Type, DEFAULT, NONE, OPTIONAL};
 use crate::gen::Case;
+use crate::rules::{Mode, Reading};
 
 const NAMES: [&str; 28] = [
     "none",
@@ -37,8 +39,24 @@ pub struct Written {
     pub line: usize,
     pub text: String,
     pub case: Case,
-    pub number: u8,
-    pub rows: usize,
+    number: u8,
+    rows: usize,
+    /// The a of each row that is a number or a text, where the line has them.
+    values: Option<Vec<u64>>,
+}
+
+/// The a of each row that is a number or a text.
+fn values_of(r: &Reading) -> Vec<u64> {
+    r.rows.iter().filter(|row| !matches!(row[0], 21..=23 | 25)).map(|row| row[2]).collect()
+}
+
+impl Written {
+    /// What a reading gives, where it is not what the line says.
+    pub fn differs(&self, r: &Reading) -> Option<String> {
+        let values = values_of(r);
+        let same = (r.number, r.rows.len()) == (self.number, self.rows) && self.values.as_ref().is_none_or(|v| *v == values);
+        (!same).then(|| format!("{} {} {values:?}", r.number, r.rows.len()))
+    }
 }
 
 struct Parser {
@@ -181,13 +199,14 @@ fn bytes(s: &str) -> Vec<u8> {
     digits.chunks(2).map(|d| d[0] << 4 | d[1]).collect()
 }
 
-pub fn cases(file: &str) -> Vec<Written> {
+/// The lines, with the answers of a mode.
+pub fn cases(file: &str, mode: Mode) -> Vec<Written> {
     let text = std::fs::read_to_string(file).expect("cases.txt");
     let lines = text.lines().enumerate().filter(|(_, l)| !l.trim().is_empty() && !l.starts_with('#'));
-    lines.map(|(i, l)| written(i + 1, l)).collect()
+    lines.map(|(i, l)| written(i + 1, l, mode)).collect()
 }
 
-fn written(line: usize, text: &str) -> Written {
+fn written(line: usize, text: &str, mode: Mode) -> Written {
     let wrong = || panic!("cases.txt, line {line}: not IDENTIFIER TYPE | DATA -> NUMBER ROWS");
     let (question, answer) = text.split_once("->").unwrap_or_else(wrong);
     let (kind, data) = question.split_once('|').unwrap_or_else(wrong);
@@ -197,8 +216,20 @@ fn written(line: usize, text: &str) -> Written {
     let mut message = bytes(identifier);
     message.resize(4, 0);
     message.extend(bytes(data));
+    let answer = match answer.split_once("standard") {
+        None => answer,
+        Some((crate_says, standard)) => match mode {
+            Mode::Crate => crate_says,
+            Mode::Standard => standard,
+        },
+    };
+    let (answer, values) = match answer.split_once('(') {
+        None => (answer, None),
+        Some((answer, values)) => (answer, Some(values.trim().trim_end_matches(')'))),
+    };
     let mut said = answer.split_whitespace().map(|w| number(w) as usize);
     let (number, rows) = (said.next().unwrap_or(255) as u8, said.next().unwrap_or(0));
-    let case = Case { book: encode(&p.types), types: p.types, root, message, way: "written" };
-    Written { line, text: text.to_string(), case, number, rows }
+    let values = values.map(|v| split(v).iter().filter(|w| *w != ",").map(|w| self::number(w) as u64).collect());
+    let case = Case { book: encode(&p.types), types: p.types, root, message, mode, way: "written", expected: None };
+    Written { line, text: text.to_string(), case, number, rows, values }
 }

@@ -9,6 +9,7 @@ mod ffi {
             root: u16,
             message: *const u8,
             message_len: usize,
+            standard: u8,
             table: *mut u64,
             words: usize,
         ) -> u64;
@@ -22,6 +23,7 @@ mod ffi {
             root: u16,
             message: *const u8,
             message_len: usize,
+            standard: u8,
             table: *mut u64,
             words: usize,
         ) -> u64;
@@ -40,6 +42,16 @@ pub const ROW: usize = 4;
 
 /// The words in which the index of any book has room.
 const INDEX: usize = 65;
+
+/// How XCDR2 is read. XCDR1 is read alike in both.
+#[derive(Clone, Copy, Debug, PartialEq, Eq)]
+#[repr(u8)]
+pub enum Mode {
+    /// As the crate dust_dds 0.16.0 does.
+    Crate = 0,
+    /// As DDS-XTypes 1.3 does: values end where their DHEADER says, and what the type does not know is passed over.
+    Standard = 1,
+}
 
 /// Why there are no rows: the numbers that are given back, but for 0.
 #[derive(Clone, Copy, Debug, PartialEq, Eq)]
@@ -150,15 +162,21 @@ fn told(table: &mut [u64], call: impl FnOnce(*mut u64, usize) -> u64) -> Result<
     }
 }
 
-/// Reads a message of the book's type `root` into the lent table.
-pub fn read<'t>(book: &[u8], root: u16, message: &[u8], table: &'t mut [u64]) -> Result<Rows<'t>, Refusal> {
+/// Reads a message of the book's type `root`, in this mode, into the lent table.
+pub fn read<'t>(
+    book: &[u8],
+    root: u16,
+    message: &[u8],
+    mode: Mode,
+    table: &'t mut [u64],
+) -> Result<Rows<'t>, Refusal> {
     // The pointers and lengths are those of live slices, and only the table is written, which nothing else borrows.
     told(table, |t, words| unsafe {
-        ffi::sinotayam_read(book.as_ptr(), book.len(), root, message.as_ptr(), message.len(), t, words)
+        ffi::sinotayam_read(book.as_ptr(), book.len(), root, message.as_ptr(), message.len(), mode as u8, t, words)
     })
 }
 
-/// The type check: whether every reading of the book's type `root` is a finished one, or refused for the message's or the table's sake alone.
+/// The type check: whether every reading of the book's type `root`, in either mode, is a finished one, or refused for the message's or the table's sake alone.
 pub fn check(book: &[u8], root: u16) -> Result<(), Refusal> {
     // The pointer and the length are those of a live slice, and nothing is written.
     let number = unsafe { ffi::sinotayam_check(book.as_ptr(), book.len(), root) };
@@ -186,12 +204,19 @@ impl<'b> Prepared<'b> {
     }
 
     /// The same answer as `read` with the book, which is not judged again.
-    pub fn read<'t>(&self, root: u16, message: &[u8], table: &'t mut [u64]) -> Result<Rows<'t>, Refusal> {
+    pub fn read<'t>(
+        &self,
+        root: u16,
+        message: &[u8],
+        mode: Mode,
+        table: &'t mut [u64],
+    ) -> Result<Rows<'t>, Refusal> {
         let (book, index) = (self.book, &self.index);
         // As in `read`.
         told(table, |t, words| unsafe {
             ffi::sinotayam_read_prepared(
-                book.as_ptr(), book.len(), index.as_ptr(), index.len(), root, message.as_ptr(), message.len(), t, words,
+                book.as_ptr(), book.len(), index.as_ptr(), index.len(), root, message.as_ptr(), message.len(),
+                mode as u8, t, words,
             )
         })
     }

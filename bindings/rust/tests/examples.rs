@@ -1,5 +1,5 @@
 //! Bench examples of document 01, through the safe calls.
-use sinotayam::{check, data, read, Prepared, Refusal, Row};
+use sinotayam::{check, data, read, Mode, Prepared, Refusal, Row};
 
 const BOOK: &[u8] = b"\x00\x00\x00\x2c\x01\x00\x02\x00\x0e\x04\x00\x00\x00\x00\x00\x00\x00\xff\xff\x00\x00\
     \x00\x17\x16\x00\x00\x00\x00\x00\x00\x00\xff\xff\x00\x01\x00\x00\x00\x07\x00\x00\x00\x01\x00";
@@ -9,6 +9,12 @@ const MESSAGE: &[u8] = b"\x00\x01\x00\x00\xfe\xff\xff\xff";
 const TEXT_BOOK: &[u8] = b"\x00\x00\x00\x2c\x01\x00\x02\x00\x0e\x10\x00\x00\x00\x00\x00\x00\x00\xff\xff\x00\x00\
     \x00\x17\x16\x02\x00\x00\x00\x00\x00\x00\xff\xff\x00\x01\x00\x00\x00\x01\x00\x00\x00\x01\x00";
 const TEXT: &[u8] = b"\x00\x0b\x00\x00\x0a\x00\x00\x00\x01\x00\x00\x50\x02\x00\x00\x00\x41\x00";
+
+// Mutable, 1: list of UINT16 (example 10).
+const LIST_BOOK: &[u8] = b"\x00\x00\x00\x3a\x01\x00\x03\x00\x0e\x06\x00\x00\x00\x00\x00\x00\x00\xff\xff\x00\x00\
+    \x00\x0e\x19\x00\x00\x00\x00\x00\x00\x00\x00\x00\x00\x00\
+    \x00\x17\x16\x02\x00\x00\x00\x00\x00\x00\xff\xff\x00\x01\x00\x00\x00\x01\x00\x01\x00\x01\x00";
+const LIST: &[u8] = b"\x00\x0b\x00\x00\x10\x00\x00\x00\x01\x00\x00\x40\x08\x00\x00\x00\x02\x00\x00\x00\x0a\x00\x0b\x00";
 
 fn rows() -> Vec<Row> {
     vec![
@@ -20,7 +26,7 @@ fn rows() -> Vec<Row> {
 #[test]
 fn example_1() {
     let mut table = [7u64; 11];
-    let got = read(BOOK, 1, MESSAGE, &mut table).unwrap();
+    let got = read(BOOK, 1, MESSAGE, Mode::Crate, &mut table).unwrap();
     assert_eq!(got.len(), 2);
     assert_eq!(got.iter().collect::<Vec<_>>(), rows());
     assert_eq!(got.get(2), None);
@@ -30,15 +36,15 @@ fn example_1() {
 #[test]
 fn example_3_has_room_in_8_words() {
     let mut table = [7u64; 7];
-    assert_eq!(read(BOOK, 1, MESSAGE, &mut table).unwrap_err(), Refusal::NoRoom);
+    assert_eq!(read(BOOK, 1, MESSAGE, Mode::Crate, &mut table).unwrap_err(), Refusal::NoRoom);
     assert_eq!(table, [0; 7]);
-    assert!(read(BOOK, 1, MESSAGE, &mut [0u64; 8]).is_ok());
+    assert!(read(BOOK, 1, MESSAGE, Mode::Crate, &mut [0u64; 8]).is_ok());
 }
 
 #[test]
 fn example_12_is_a_text() {
     let mut table = [0u64; 64];
-    let got = read(TEXT_BOOK, 1, TEXT, &mut table).unwrap();
+    let got = read(TEXT_BOOK, 1, TEXT, Mode::Crate, &mut table).unwrap();
     assert_eq!(got.text(1, data(TEXT)), Some("A"));
     assert_eq!(got.text(0, data(TEXT)), None);
     assert_eq!(got.text(2, data(TEXT)), None);
@@ -46,9 +52,24 @@ fn example_12_is_a_text() {
 }
 
 #[test]
+fn example_10_in_both_modes() {
+    let mut table = [0u64; 64];
+    assert_eq!(read(LIST_BOOK, 2, LIST, Mode::Crate, &mut table).unwrap_err(), Refusal::NotEnoughData);
+    let values = |rows: sinotayam::Rows| rows.iter().skip(2).map(|r| r.a).collect::<Vec<_>>();
+    assert_eq!(values(read(LIST_BOOK, 2, LIST, Mode::Standard, &mut table).unwrap()), [10, 11]);
+    let book = Prepared::new(LIST_BOOK).unwrap();
+    assert_eq!(values(book.read(2, LIST, Mode::Standard, &mut table).unwrap()), [10, 11]);
+    assert_eq!(book.read(2, LIST, Mode::Crate, &mut table).unwrap_err(), Refusal::NotEnoughData);
+    // eight zero bytes more
+    let longer = [LIST, &[0; 8]].concat();
+    assert_eq!(values(read(LIST_BOOK, 2, &longer, Mode::Crate, &mut table).unwrap()), [2, 0, 10, 11, 0, 0, 0, 0]);
+    assert_eq!(values(read(LIST_BOOK, 2, &longer, Mode::Standard, &mut table).unwrap()), [10, 11]);
+}
+
+#[test]
 fn refusals_in_order() {
     let mut table = [7u64; 9];
-    let mut of = |book: &[u8], root, message: &[u8]| read(book, root, message, &mut table).unwrap_err();
+    let mut of = |book: &[u8], root, message: &[u8]| read(book, root, message, Mode::Crate, &mut table).unwrap_err();
     assert_eq!(of(&BOOK[1..], 2, &[]), Refusal::BadBook);
     assert_eq!(of(&[], 0, MESSAGE), Refusal::BadBook);
     assert_eq!(of(BOOK, 2, &[0; 65537]), Refusal::BadRoot);
@@ -64,15 +85,15 @@ fn prepared_reads_the_same() {
     let mut table = [0u64; 64];
     let book = Prepared::new(BOOK).unwrap();
     for _ in 0..3 {
-        assert_eq!(book.read(1, MESSAGE, &mut table).unwrap().iter().collect::<Vec<_>>(), rows());
+        assert_eq!(book.read(1, MESSAGE, Mode::Crate, &mut table).unwrap().iter().collect::<Vec<_>>(), rows());
     }
-    assert_eq!(book.read(2, MESSAGE, &mut table).unwrap_err(), Refusal::BadRoot);
+    assert_eq!(book.read(2, MESSAGE, Mode::Crate, &mut table).unwrap_err(), Refusal::BadRoot);
     assert_eq!(Prepared::new(&BOOK[1..]).unwrap_err(), Refusal::BadBook);
 }
 
 #[test]
 fn an_empty_table_has_no_room() {
-    assert_eq!(read(BOOK, 1, MESSAGE, &mut []).unwrap_err(), Refusal::NoRoom);
+    assert_eq!(read(BOOK, 1, MESSAGE, Mode::Crate, &mut []).unwrap_err(), Refusal::NoRoom);
 }
 
 #[test]

@@ -2,6 +2,7 @@
 // The file stdout is written from document 01.
 use libc::STDOUT_FILENO;
 use sinotayam::answer::Status;
+use wire::settings::Mode;
 
 const IDENTIFIER: [u8; 2] = *b"\x00\x01";
 
@@ -95,7 +96,7 @@ fn title(s: &[u8]) {
 
 fn read_in(name: &[u8], book: &[u8], root: usize, message: &[u8], table: &mut [u64]) {
     title(name);
-    let a = sinotayam::read(book, root, message, table);
+    let a = sinotayam::read(book, root, message, Mode::Crate, table);
     cases::lines::answer(a, table);
 }
 
@@ -254,7 +255,7 @@ fn lengths() {
 fn data(name: &[u8], s: &[u8]) {
     let mut table = [0u64; 8];
     title(name);
-    let a = sinotayam::read_data(&INT32, 1, IDENTIFIER, s, &mut table);
+    let a = sinotayam::read_data(&INT32, 1, IDENTIFIER, s, Mode::Crate, &mut table);
     cases::lines::answer(a, &table);
 }
 
@@ -293,6 +294,7 @@ fn prepared_in(name: &[u8], index: &mut [u32]) {
         index,
         1,
         b"\x00\x01\x00\x00\xfe\xff\xff\xff",
+        Mode::Crate,
         &mut table,
     );
     cases::lines::answer(a, &table);
@@ -311,7 +313,7 @@ fn texts() {
     let mut table = [0u64; 12];
     title(b"text");
     let message = b"\x00\x0b\x00\x00\x0a\x00\x00\x00\x01\x00\x00\x50\x02\x00\x00\x00\x41\x00";
-    let a = sinotayam::read(&MUTABLE_STRING8, 1, message, &mut table);
+    let a = sinotayam::read(&MUTABLE_STRING8, 1, message, Mode::Crate, &mut table);
     cases::lines::answer(a, &table);
     let s = b"\x0a\x00\x00\x00\x01\x00\x00\x50\x02\x00\x00\x00\x41\x00";
     text(&table, 0, s);

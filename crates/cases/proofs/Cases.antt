@@ -14,6 +14,7 @@ use Rattle.ground.specs.Choice.{pick, both, _‥_, within}
 use Rattle.ground.proofs.Tests.{and-both, both-second}
 use Rattle.book.specs.Types.{pair, quad}
 use Rattle.book.specs.Places.{from}
+use Rattle.wire.specs.declared.settings.Mode.the-variants.{Crate}
 use Rattle.table.specs.Rows.{capacity}
 use Rattle.sinotayam.specs.declared.answer.Answer.{Answer}
 use Rattle.sinotayam.specs.Answer.{Settled}
@@ -90,7 +91,7 @@ module _ (s : List ℕ) where
     message-in = omega (arith, ends)
 
     -- the code lends the book, and the message six bytes after it
-    pub replied-case : (t u : List ℕ) (a : Answer) → Settled (readOf (take (b - 0) (drop 0 s)) r (take (b + 6 + m - (b + 6)) (drop (b + 6) s)) (capacity t)) t u a → Replied (inputOf s) s t u (reply.Given a)
+    pub replied-case : (t u : List ℕ) (a : Answer) → Settled (readOf (take (b - 0) (drop 0 s)) r (take (b + 6 + m - (b + 6)) (drop (b + 6) s)) Crate (capacity t)) t u a → Replied (inputOf s) s t u (reply.Given a)
     unfolding Replied
     replied-case t u a d =
         let z : b - 0 ≡ b = omega arith in

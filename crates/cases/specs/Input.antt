@@ -7,6 +7,7 @@ use lib.ListN.{length, take, drop}
 use Rattle.ground.specs.Choice.{pick, both, _‥_, within}
 use Rattle.book.specs.Types.{pair, quad}
 use Rattle.book.specs.Places.{from}
+use Rattle.wire.specs.declared.settings.Mode.the-variants.{Crate}
 use Rattle.table.specs.Rows.{capacity}
 use Rattle.sinotayam.specs.declared.answer.Answer.{Answer}
 use Rattle.sinotayam.specs.Answer.{Settled}
@@ -42,4 +43,4 @@ inputOf s =
 unfoldable pub Replied : Input → List ℕ → List ℕ → List ℕ → Reply → Type 0
 Replied input.Wrong s before after r = (r ≡ reply.Wrong) × (after ≡ before)
 Replied (input.Case book root message) s before after r =
-    (a : Answer) × (r ≡ reply.Given a) × Settled (readOf (take book s) root (take message (drop (book + 6) s)) (capacity before)) before after a
+    (a : Answer) × (r ≡ reply.Given a) × Settled (readOf (take book s) root (take message (drop (book + 6) s)) Crate (capacity before)) before after a

@@ -4,6 +4,7 @@ ghost use Rattle.cases.specs.Input.{inputOf, Replied};
 use book::bytes::pair_at;
 use book::bytes::quad_at;
 use sinotayam::answer::Answer;
+use wire::settings::Mode;
 
 // The book's size, the root, and the message's size.
 pub enum Input {
@@ -38,7 +39,7 @@ pub fn read_case(s: &[u8], table: &mut [u64]) -> Reply
         Input::Case(book, root, message) => {
             let start = book + 6;
             let end = start + message;
-            Reply::Given(sinotayam::read(&s[0..book], root, &s[start..end], table))
+            Reply::Given(sinotayam::read(&s[0..book], root, &s[start..end], Mode::Crate, table))
         }
     }
 }

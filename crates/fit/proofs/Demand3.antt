@@ -55,4 +55,4 @@ pub demand-3 : (book s : List ℕ) → AreBytes s → (set : Settings) (root roo
 unfolding reading
 demand-3 book s bytes set root room e =
     let p = passing (check-says book root) e in
-    untroubled (nested-settles (typesOf book) s bytes set (right-type book (p .0)) 16 root 0 (cursorAt 0 0) room (p .1 .kind) (p .1 .fit))
+    untroubled (nested-settles (typesOf book) s set (right-type book (p .0)) 16 s (record { bytes = bytes; fits = omega arith }) root 0 (cursorAt 0 0) room (p .1 .kind) (p .1 .fit))

@@ -78,10 +78,12 @@ module _ {P : Refusal → Type 0} where
   ends-move (place.Short x) next h = wanting
   ends-move (place.At c) next h = h c
 
-  pub ends-contents : {R : List Row → Type 0} (g : Contents) (next : Cursor → ℕ → Outcome) → ((c : Cursor) (end : ℕ) → Ends R P (next c end)) → Ends R P (afterContents short g next)
+  -- contents that end past the data are refused
+  pub ends-contents : {R : List Row → Type 0} (k : Refusal) → P k → (g : Contents) (next : Cursor → ℕ → Outcome) → ((c : Cursor) (end : ℕ) → Ends R P (next c end)) → Ends R P (afterContents short (refused k) g next)
   unfolding afterContents
-  ends-contents (contents.Short x) next h = wanting
-  ends-contents (contents.Between c end) next h = h c end
+  ends-contents k p (contents.Short x) next h = wanting
+  ends-contents k p contents.Past next h = broken p
+  ends-contents k p (contents.Between c end) next h = h c end
 
   pub ends-number : {R : List Row → Type 0} (n : Number) (next : ℕ → Cursor → Outcome) → ((v : ℕ) (c : Cursor) → n ≡ number.Got v c → Ends R P (next v c)) → Ends R P (afterNumber short n next)
   unfolding afterNumber

@@ -4,6 +4,7 @@ pub mod Ranges
 pub mod Scalars
 pub mod Unions
 pub mod Fits
+pub mod Cuts
 pub mod Settling
 pub mod Exact
 pub mod Books
@@ -11,4 +12,8 @@ pub mod ClauseTests
 pub mod Measuring
 pub mod Checking
 pub mod Demand3
+pub mod Standing
+pub mod Searches
+pub mod Within
 mod Examples
+mod WithinExamples

@@ -1,2 +1,2 @@
--- The shape of the code: no rule of document 01 stands in this folder.
+-- The shape of the code: no rule stands in this folder.
 pub mod Check

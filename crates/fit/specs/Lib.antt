@@ -2,3 +2,4 @@ pub mod Fit
 pub mod Code
 pub mod Check
 pub mod Demand3
+pub mod Within

@@ -80,15 +80,15 @@ module _ (s : List ℕ) (set : Settings) (id : ℕ) (at y : Cursor) (n : ℕ) (k
         ∙ sym (by-turns s set (set .version) w (cursorAt q (at .origin))),
   )
 
-  settled : (value next : ℕ) → turnBy s set (set .version) id at ≡ Done (Found n (cursorAt value (at .origin))) → 0 < n → PassedTo s y n next → AheadAt s set id at n next value
+  settled : (m value next : ℕ) → turnBy s set (set .version) id at ≡ Done (Found m (cursorAt value (at .origin))) → 0 < m → PassedTo s y n next → AheadAt s set id at m next value
   unfolding AheadAt
-  settled zero next hit some p = tt
-  settled (suc v) next hit some p =
+  settled m zero next hit some p = tt
+  settled m (suc v) next hit some p =
       (by-turns s set (set .version) id at ∙ seek-done s (turnBy s set (set .version) id) at _ hit, some, own, next-is next p)
 
-  made : (value next : ℕ) (r : Ahead) → r ≡ aheadOf value n next → turnBy s set (set .version) id at ≡ Done (Found n (cursorAt value (at .origin))) → 0 < n → PassedTo s y n next → AheadIs s set id at r
+  made : (m value next : ℕ) (r : Ahead) → r ≡ aheadOf value m next → turnBy s set (set .version) id at ≡ Done (Found m (cursorAt value (at .origin))) → 0 < m → PassedTo s y n next → AheadIs s set id at r
   unfolding AheadIs
-  made value next r e hit some p = rw e (settled value next hit some p)
+  made m value next r e hit some p = rw e (settled m value next hit some p)
 
 -- past a value: the alignment to 4 is the same in both versions
 module _ (s : List ℕ) (pos n origin : ℕ) where
@@ -148,18 +148,19 @@ module _ (s : List ℕ) (set : Settings) (pos origin : ℕ) (head : HeadAt s pos
     judged2 : (w : ℕ) → turnBy s set (set .version) w (cursorAt pos origin) ≡ xcdr2.verdict s set w v n y
     judged2 w = by-turn2 s set (set .version) w (cursorAt pos origin) version ∙ turned2 w
 
-    ahead2 : (value next : ℕ) (r : Ahead) → r ≡ aheadOf value n next → xcdr2.valueFrom (xcdr2.lcOf v) y ≡ cursorAt value origin → y .origin ≡ origin → 0 < n → PassedTo s y n next → AheadIs s set (xcdr2.idOf v) (cursorAt pos origin) r
+    ahead2 : (m value next : ℕ) (r : Ahead) → r ≡ aheadOf value m next → m ≡ xcdr2.lengthFrom (set .mode) (xcdr2.lcOf v) n → xcdr2.valueFrom (set .mode) (xcdr2.lcOf v) y ≡ cursorAt value origin → y .origin ≡ origin → 0 < n → PassedTo s y n next
+        → AheadIs s set (xcdr2.idOf v) (cursorAt pos origin) r
     unfolding xcdr2.verdict
-    ahead2 value next r e back kept some p =
-        made s set (xcdr2.idOf v) (cursorAt pos origin) y n kept (own2 (set .version) v version) (λ w l. judged2 w ∙ (rw (ne-eqb (xcdr2.idOf v) w (let f = asked2 (set .version) w version in omega arith)))) value next r e
-        (judged2 (xcdr2.idOf v) ∙ (rw (eq-eqb (xcdr2.idOf v) (xcdr2.idOf v) refl, back))) some p
+    ahead2 m value next r e size back kept some p =
+        made s set (xcdr2.idOf v) (cursorAt pos origin) y n kept (own2 (set .version) v version) (λ w l. judged2 w ∙ (rw (ne-eqb (xcdr2.idOf v) w (let f = asked2 (set .version) w version in omega arith)))) m value next r e
+        (judged2 (xcdr2.idOf v) ∙ (rw (eq-eqb (xcdr2.idOf v) (xcdr2.idOf v) refl, ← size, back))) (turns2.found-some (set .mode) (xcdr2.lcOf v) n m size some) p
 
   -- a length code below 4 tells the length
-  pub ahead-fixed : (lc n next i id b : ℕ) → lc ≡ xcdr2.lcOf v → lc < 4 → n ≡ xcdr2.fixedLength lc → 0 < n → i ≡ xcdr2.idOf v → i ≡ id → PassedTo s (cursorAt (pos + 4) origin) n next → b ≡ xcdr2.stepBack lc
-      → (r : Ahead) → r ≡ aheadOf (pos + 4 - b) n next → AheadIs s set id (cursorAt pos origin) r
+  pub ahead-fixed : (lc n next i id b : ℕ) → lc ≡ xcdr2.lcOf v → lc < 4 → n ≡ xcdr2.fixedLength lc → 0 < n → i ≡ xcdr2.idOf v → i ≡ id → PassedTo s (cursorAt (pos + 4) origin) n next → b ≡ xcdr2.stepBack (set .mode) lc
+      → (m : ℕ) → m ≡ xcdr2.lengthFrom (set .mode) lc n → (r : Ahead) → r ≡ aheadOf (pos + 4 - b) m next → AheadIs s set id (cursorAt pos origin) r
   unfolding xcdr2.lengthOf xcdr2.lengthByLc
-  ahead-fixed lc n next i id b c l e some named wanted p back r f =
-      rw (← wanted, named) (ahead2 n (cursorAt (pos + 4) origin) (rw (← c, lt-ltb _ _ l, ← e)) (pos + 4 - b) next r f (rw (← c, ← back)) refl some p)
+  ahead-fixed lc n next i id b c l e some named wanted p back m size r f =
+      rw (← wanted, named) (ahead2 n (cursorAt (pos + 4) origin) (rw (← c, lt-ltb _ _ l, ← e)) m (pos + 4 - b) next r f (rw (← c) size) (rw (← c, ← back)) refl some p)
 
 -- a length code from 4 on has it in NEXTINT
 module _ (s : List ℕ) (set : Settings) (v pos origin : ℕ) (long : LongHead s set v pos origin) (there : 4 ≤ length s - (pos + 4)) (m u : ℕ) (is : m ≡ numberAt (set .order) 0 s (pos + 4) 4) (lc : ℕ) (code : lc ≡ xcdr2.lcOf v) (unit : u ≡ xcdr2.unitOf lc) (some : m * u ≡ 0 → ⊥) where
@@ -167,10 +168,10 @@ module _ (s : List ℕ) (set : Settings) (v pos origin : ℕ) (long : LongHead s
   unfolding xcdr2.lengthOf xcdr2.lengthByLc xcdr2.nextintTimes afterNumber
   told-long = rw (le-ltb _ _ (long .code), read4 s set (pos + 4) origin (nextint-head s set pos origin (long .head) there), ← is, ← code, ← unit)
 
-  pub ahead-long : (next b : ℕ) → PassedTo s (cursorAt (pos + 4 + 4) origin) (m * u) next → b ≡ xcdr2.stepBack lc
-      → (r : Ahead) → r ≡ aheadOf (pos + 4 + 4 - b) (m * u) next → AheadIs s set (xcdr2.idOf v) (cursorAt pos origin) r
-  ahead-long next b p back r f =
-      ahead2 s set pos origin (long .head) (long .version) v (long .is) (m * u) _ told-long (pos + 4 + 4 - b) next r f (rw (← code, ← back)) refl (omega arith) p
+  pub ahead-long : (next b : ℕ) → PassedTo s (cursorAt (pos + 4 + 4) origin) (m * u) next → b ≡ xcdr2.stepBack (set .mode) lc
+      → (k : ℕ) → k ≡ xcdr2.lengthFrom (set .mode) lc (m * u) → (r : Ahead) → r ≡ aheadOf (pos + 4 + 4 - b) k next → AheadIs s set (xcdr2.idOf v) (cursorAt pos origin) r
+  ahead-long next b p back k size r f =
+      ahead2 s set pos origin (long .head) (long .version) v (long .is) (m * u) _ told-long k (pos + 4 + 4 - b) next r f (rw (← code) size) (rw (← code, ← back)) refl (omega arith) p
 
 -- a value that is not empty is not the end
 not-end : (id n : ℕ) → (n ≡ 0 → ⊥) → xcdr1.isEnd id n ≡ false
@@ -213,7 +214,7 @@ module _ (s : List ℕ) (set : Settings) (pos origin : ℕ) (head : HeadAt s pos
         let on : xcdr1.isEnd (v % 16384) n ≡ false = not-end (v % 16384) n some in
         rw (← e)
         (made s set (v % 16384) (cursorAt pos origin) (cursorAt (pos + 4) origin) n refl (own1 (set .version) v version)
-        (λ w l. judged1 w ∙ (rw (on, ne-eqb (v % 16384) (w % 65536) (let f = asked1 (set .version) w version in omega arith)))) (pos + 4) next r f
+        (λ w l. judged1 w ∙ (rw (on, ne-eqb (v % 16384) (w % 65536) (let f = asked1 (set .version) w version in omega arith)))) n (pos + 4) next r f
         (judged1 (v % 16384) ∙ (rw (on, eq-eqb (v % 16384) (v % 16384 % 65536) (omega arith)))) (omega arith) p)
 
 -- nothing is said, or the same under the wanted id's own name

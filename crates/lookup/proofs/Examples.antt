@@ -5,6 +5,7 @@ use mathlib.Core.List.{List, [], _∷_, _++_}
 use Rattle.wire.specs.Place.{cursorAt, shortAt, alignmentOf, paddingOf, seekTo, alignTo, afterMove}
 use Rattle.wire.specs.Number.{numberAt, onBytes, numberHere, onAligned, readNumber, afterNumber}
 use Rattle.wire.specs.Identifier.{settings}
+use Rattle.wire.specs.declared.settings.Mode.the-variants.{Crate, Standard}
 use Rattle.wire.specs.declared.settings.Settings.{Settings}
 use Rattle.wire.specs.declared.settings.ByteOrder.the-variants.{LittleEndian}
 use Rattle.wire.specs.declared.settings.Version.the-variants.{Xcdr1, Xcdr2}
@@ -15,7 +16,8 @@ use Rattle.lookup.specs.Search.{pastValue, onTurn, headersIn}
 use Rattle.lookup.specs.Xcdr1 as xcdr1
 use Rattle.lookup.specs.Xcdr2 as xcdr2
 use Rattle.lookup.specs.Member.{locatedV1, locatedV2, lookedUp, locate}
-use Rattle.wire.specs.Dheader.{dheaderAt}
+use Rattle.wire.specs.Ends.{keepsEndsBy}
+use Rattle.wire.specs.Dheader.{upTo, dheaderAt}
 use Rattle.lookup.specs.declared.search.Seek.{Seek}
 use Rattle.lookup.specs.declared.search.Seek.the-variants as seek
 use Rattle.lookup.specs.declared.member.Located.{Located}
@@ -24,10 +26,13 @@ use Rattle.wire.specs.declared.dheader.Contents.{Contents}
 use Rattle.wire.specs.declared.dheader.Contents.the-variants as contents
 
 abbrev le1 : Settings
-le1 = settings LittleEndian Xcdr1
+le1 = settings Crate LittleEndian Xcdr1
 
 abbrev le2 : Settings
-le2 = settings LittleEndian Xcdr2
+le2 = settings Crate LittleEndian Xcdr2
+
+abbrev standard : Settings
+standard = settings Standard LittleEndian Xcdr2
 
 -- four bytes, as document 01 writes them
 abbrev four : ℕ → ℕ → ℕ → ℕ → List ℕ
@@ -65,7 +70,7 @@ start = cursorAt 0 0
 
 -- the definitions with all that they rest on open
 unfoldable locates : List ℕ → Settings → ℕ → Cursor → Located
-unfolding locate lookedUp locatedV1 locatedV2 xcdr1.seekToPid xcdr1.turnAt xcdr1.onHeader xcdr1.verdict xcdr1.headerAt xcdr2.seekToPid xcdr2.turnAt xcdr2.verdict xcdr2.stepBack xcdr2.lengthOf xcdr2.lengthByLc xcdr2.nextintTimes headersIn onTurn pastValue afterMove afterNumber readNumber onAligned numberHere onBytes numberAt alignTo seekTo paddingOf alignmentOf
+unfolding locate lookedUp locatedV1 locatedV2 xcdr1.seekToPid xcdr1.turnAt xcdr1.onHeader xcdr1.verdict xcdr1.headerAt xcdr2.seekToPid xcdr2.turnAt xcdr2.verdict xcdr2.stepBack xcdr2.lengthFrom xcdr2.lengthOf xcdr2.lengthByLc xcdr2.nextintTimes headersIn onTurn pastValue afterMove afterNumber readNumber onAligned numberHere onBytes numberAt alignTo seekTo paddingOf alignmentOf
 locates s set id c = locate s set id c
 
 unfoldable seeks1 : List ℕ → ℕ → Seek
@@ -73,7 +78,7 @@ unfolding xcdr1.seekToPid xcdr1.turnAt xcdr1.onHeader xcdr1.verdict xcdr1.header
 seeks1 s id = xcdr1.seekToPid s le1 id start
 
 unfoldable seeks2 : List ℕ → ℕ → Seek
-unfolding xcdr2.seekToPid xcdr2.turnAt xcdr2.verdict xcdr2.stepBack xcdr2.lengthOf xcdr2.lengthByLc xcdr2.nextintTimes headersIn onTurn pastValue afterMove afterNumber readNumber onAligned numberHere onBytes numberAt alignTo seekTo paddingOf alignmentOf
+unfolding xcdr2.seekToPid xcdr2.turnAt xcdr2.verdict xcdr2.stepBack xcdr2.lengthFrom xcdr2.lengthOf xcdr2.lengthByLc xcdr2.nextintTimes headersIn onTurn pastValue afterMove afterNumber readNumber onAligned numberHere onBytes numberAt alignTo seekTo paddingOf alignmentOf
 seeks2 s id = xcdr2.seekToPid s le2 id start
 
 unfoldable seeksSentinel : List ℕ → Cursor → Place
@@ -81,7 +86,7 @@ unfolding xcdr1.seekToSentinel xcdr1.sentinelPlace xcdr1.seekToPid xcdr1.turnAt 
 seeksSentinel s c = xcdr1.seekToSentinel s le1 c
 
 unfoldable ends : List ℕ → Contents
-unfolding dheaderAt afterMove afterNumber readNumber onAligned numberHere onBytes numberAt alignTo seekTo paddingOf alignmentOf
+unfolding dheaderAt upTo keepsEndsBy afterMove afterNumber readNumber onAligned numberHere onBytes numberAt alignTo seekTo paddingOf alignmentOf
 ends s = dheaderAt s le2 start
 
 -- 8: found at 4; the structure's own search ends after the marker, and with the first 8 bytes only it is short there
@@ -166,6 +171,16 @@ length-codes :
     × (seeks2 (withNextint 0x70) 1 ≡ seek.Found 16 (cursorAt 8 0))
 unfolding seeks2
 length-codes = (refl, refl, refl, refl, refl, refl, refl, refl)
+
+-- the same in the standard's mode: 5, 6 and 7 step back, and NEXTINT counts in the member's length
+standard-codes :
+    (locates (withNextint 0x00) standard 1 start ≡ located.Found 1 (cursorAt 4 0) start)
+    × (locates (withNextint 0x40) standard 1 start ≡ located.Found 2 (cursorAt 8 0) start)
+    × (locates (withNextint 0xD0) standard 1 start ≡ located.Found 6 (cursorAt 4 0) start)
+    × (locates (withNextint 0x60) standard 1 start ≡ located.Found 12 (cursorAt 4 0) start)
+    × (locates (withNextint 0x70) standard 1 start ≡ located.Found 20 (cursorAt 4 0) start)
+unfolding locates
+standard-codes = (refl, refl, refl, refl, refl)
 
 -- another's value is passed over by the whole product, counted after NEXTINT, with LC 5 too
 passed-over :

@@ -1,6 +1,6 @@
 -- The XCDR2 search: a law for each way through its functions, that a header moves on, and that no header ends the search. Assumes
 -- nothing.
-use Prim.Native.Nat.{ℕ, _-_, _*_, _<_, _≤_, _^_}
+use Prim.Native.Nat.{ℕ, _+_, _-_, _*_, _<_, _≤_, _^_}
 use mathlib.Core.Path.{_≡_, sym, ap, _∙_}
 use mathlib.Core.Bool.{Bool, true, false}
 use mathlib.Core.List.{List}
@@ -9,10 +9,12 @@ use native.Mathlib.Nat.{mul-le-mul, le-of-lt}
 use lib.ListN.{length}
 use lib.Dec.{eqb, ltb}
 use borrow.Author.Tests.{eq-eqb, ne-eqb, lt-ltb, le-ltb}
-use Rattle.ground.specs.Choice.{pick}
+use Rattle.ground.specs.Choice.{pick, _‥_, within}
 use Rattle.wire.specs.Place.{cursorAt}
 use Rattle.wire.specs.Number.{readNumber, afterNumber}
-use Rattle.wire.specs.Code.Reads.{ReadIs}
+use Rattle.wire.specs.Code.Reads.{ReadIs, Small}
+use Rattle.wire.specs.declared.settings.Mode.{Mode}
+use Rattle.wire.specs.declared.settings.Mode.the-variants.{Crate, Standard}
 use Rattle.wire.specs.declared.settings.Settings.{Settings}
 use Rattle.wire.specs.declared.cursor.Cursor.{Cursor}
 use Rattle.wire.specs.declared.cursor.Shortage.{Shortage}
@@ -20,7 +22,7 @@ use Rattle.wire.specs.declared.number.Number.{Number}
 use Rattle.wire.specs.declared.number.Number.the-variants as number
 use Rattle.wire.proofs.Numbers.{Moved, short-got, read-inv, number-inv}
 use Rattle.lookup.specs.Search.{ranShort, pastValue}
-use Rattle.lookup.specs.Xcdr2.{idOf, lcOf, fixedLength, unitOf, nextintTimes, lengthByLc, lengthOf, stepBack, valueFrom, verdict, turnAt, seekToPid}
+use Rattle.lookup.specs.Xcdr2.{idOf, lcOf, fixedLength, unitOf, nextintTimes, lengthByLc, lengthOf, stepBack, valueFrom, lengthFrom, verdict, turnAt, seekToPid}
 use Rattle.lookup.specs.declared.search.Seek.the-variants.{Found, PidNotFound, Short}
 use Rattle.lookup.specs.declared.search.Turn.{Turn}
 use Rattle.lookup.specs.declared.search.Turn.the-variants.{Done, On}
@@ -33,6 +35,9 @@ times-fits n u h k = omega (arith, mul-le-mul (le-of-lt h) k)
 pub times-word : (n u : ℕ) → n < 256 ^ 4 → u ≤ 8 → n * u < 2 ^ 64
 times-word n u h k = omega (arith, times-fits n u h k)
 
+pub times-small : (n u : ℕ) → n < 256 ^ 4 → u ≤ 8 → n * u < 256 ^ 5
+times-small n u h k = omega (arith, times-fits n u h k)
+
 -- NEXTINT
 module _ (s : List ℕ) (set : Settings) (unit : ℕ) (c : Cursor) (r : Number) (is : ReadIs s set c 4 r) where
   pub nextint-short : (x : Shortage) → r ≡ number.Short x → number.Short x ≡ nextintTimes s set unit c
@@ -42,6 +47,9 @@ module _ (s : List ℕ) (set : Settings) (unit : ℕ) (c : Cursor) (r : Number) 
   pub nextint-got : (n : ℕ) (d : Cursor) → r ≡ number.Got n d → number.Got (n * unit) d ≡ nextintTimes s set unit c
   unfolding nextintTimes afterNumber
   nextint-got n d e = rw (sym (is .is) ∙ e)
+
+  pub nextint-small : (n : ℕ) (d : Cursor) → unit ≤ 8 → r ≡ number.Got n d → n * unit < 256 ^ 5
+  nextint-small n d h e = times-small n unit (rw e at (is .small)) h
 
   pub nextint-fits : (n : ℕ) (d : Cursor) → unit ≤ 8 → r ≡ number.Got n d → n * unit < 2 ^ 64
   nextint-fits n d h e = times-word n unit (rw e at (is .small)) h
@@ -66,14 +74,42 @@ unit-at lc k u e f = rw e f
 pub unit-last : (lc : ℕ) → 4 ≤ lc → lc < 8 → (lc ≡ 4 → ⊥) → (lc ≡ 5 → ⊥) → (lc ≡ 6 → ⊥) → _≡_ {A = ℕ} 8 (unitOf lc)
 unit-last lc l h a b c = let e : lc ≡ 7 = omega arith in rw e
 
--- how far LC 5 steps back, and the others
-pub back-five : (lc : ℕ) → lc ≡ 5 → _≡_ {A = ℕ} 4 (stepBack lc)
-unfolding stepBack
-back-five lc e = rw e
+-- how far the length codes step back in each mode
+module _ (mode : Mode) (lc : ℕ) where
+  pub back-five : mode ≡ Crate → lc ≡ 5 → _≡_ {A = ℕ} 4 (stepBack mode lc)
+  unfolding stepBack
+  back-five m e = rw (m, e)
 
-pub back-other : (lc : ℕ) → (lc ≡ 5 → ⊥) → _≡_ {A = ℕ} 0 (stepBack lc)
-unfolding stepBack
-back-other lc e = rw (ne-eqb lc 5 e)
+  pub back-other : mode ≡ Crate → (lc ≡ 5 → ⊥) → _≡_ {A = ℕ} 0 (stepBack mode lc)
+  unfolding stepBack
+  back-other m e = rw (m, ne-eqb lc 5 e)
+
+  module _ (m : mode ≡ Standard) (r : Bool) (is : r ≡ within (5 ‥ 7) lc) where
+    pub back-long : r ≡ true → _≡_ {A = ℕ} 4 (stepBack mode lc)
+    unfolding stepBack
+    back-long e = rw (m, ← is, e)
+
+    pub back-short : r ≡ false → _≡_ {A = ℕ} 0 (stepBack mode lc)
+    unfolding stepBack
+    back-short e = rw (m, ← is, e)
+
+-- the length that is found
+module _ (mode : Mode) (lc n : ℕ) where
+  pub found-own : mode ≡ Crate → n ≡ lengthFrom mode lc n
+  unfolding lengthFrom
+  found-own m = rw m
+
+  pub found-more : mode ≡ Standard → (b : ℕ) → b ≡ stepBack Standard lc → n + b ≡ lengthFrom mode lc n
+  unfolding lengthFrom
+  found-more m b e = rw (m, e)
+
+  pub found-some : (m : ℕ) → m ≡ lengthFrom mode lc n → 0 < n → 0 < m
+  unfolding lengthFrom
+  found-some m e h = rw e (go mode)
+    where
+      go : (x : Mode) → 0 < lengthFrom x lc n
+      go Crate = h
+      go Standard = omega arith
 
 -- a whole header moves the cursor on, by its four bytes at least and not past the end
 got-same : (m : ℕ) (y : Cursor) (n : ℕ) (d : Cursor) → number.Got m y ≡ number.Got n d → y ≡ d
@@ -112,7 +148,7 @@ module _ (s : List ℕ) (set : Settings) where
       let b = number-inv ranShort (On z) (λ x. done-on (Short x) z) (lengthOf s set (a .0) (a .1)) _ (a .3) in
       then-moved (whole-moves c (a .0) (a .1) (b .0) (b .1) (a .2) (b .2))
       (past-moves s set (b .1) (b .0) z
-      (not-done (eqb (idOf (a .0)) wanted) (Found (b .0) (valueFrom (lcOf (a .0)) (b .1))) (pastValue s set (b .1) (b .0)) z (b .3)))
+      (not-done (eqb (idOf (a .0)) wanted) (Found (lengthFrom (set .mode) (lcOf (a .0)) (b .0)) (valueFrom (set .mode) (lcOf (a .0)) (b .1))) (pastValue s set (b .1) (b .0)) z (b .3)))
 
 -- what a header comes to
 module _ (s : List ℕ) (set : Settings) (wanted : ℕ) (c : Cursor) (r : Number) (is : ReadIs s set c 4 r) where
@@ -130,9 +166,12 @@ module _ (s : List ℕ) (set : Settings) (wanted : ℕ) (c : Cursor) (r : Number
       pub turn-room : (b : ℕ) → b ≤ 4 → b ≤ y .pos
       turn-room b h = let a = whole-moves s set c v d n y (sym (is .is) ∙ first) (sym then ∙ told) in omega (arith, a .on)
 
-      pub turn-found : (i lc b : ℕ) (z : Cursor) → i ≡ idOf v → i ≡ wanted → lc ≡ lcOf v → b ≡ stepBack lc → z ≡ cursorAt (y .pos - b) (y .origin) → Done (Found n z) ≡ turnAt s set wanted c
+      pub turn-small : Small 5 q → n < 256 ^ 5
+      turn-small h = rw told at h
+
+      pub turn-found : (i lc b m : ℕ) (z : Cursor) → i ≡ idOf v → i ≡ wanted → lc ≡ lcOf v → b ≡ stepBack (set .mode) lc → m ≡ lengthFrom (set .mode) lc n → z ≡ cursorAt (y .pos - b) (y .origin) → Done (Found m z) ≡ turnAt s set wanted c
       unfolding turnAt afterNumber verdict
-      turn-found i lc b z j e l f g = rw (sym (is .is) ∙ first, sym then ∙ told, eq-eqb _ _ (sym j ∙ e), ← l, ← f, g)
+      turn-found i lc b m z j e l f k g = rw (sym (is .is) ∙ first, sym then ∙ told, eq-eqb _ _ (sym j ∙ e), ← l, ← f, ← k, g)
 
       pub turn-past : (i : ℕ) (t : Turn) → i ≡ idOf v → (i ≡ wanted → ⊥) → t ≡ pastValue s set y n → t ≡ turnAt s set wanted c
       unfolding turnAt afterNumber verdict
@@ -145,8 +184,8 @@ module _ (s : List ℕ) (set : Settings) (wanted : ℕ) where
   there c e =
       let a = number-inv ranShort (Done PidNotFound) short-done (readNumber s set c 4) _ e in
       let b = number-inv ranShort (Done PidNotFound) short-done (lengthOf s set (a .0) (a .1)) _ (a .3) in
-      pick-never (eqb (idOf (a .0)) wanted) (Done (Found (b .0) (valueFrom (lcOf (a .0)) (b .1)))) (pastValue s set (b .1) (b .0)) (Done PidNotFound)
-      (found-done (b .0) (valueFrom (lcOf (a .0)) (b .1))) (past-there s set (b .1) (b .0)) (b .3)
+      pick-never (eqb (idOf (a .0)) wanted) (Done (Found (lengthFrom (set .mode) (lcOf (a .0)) (b .0)) (valueFrom (set .mode) (lcOf (a .0)) (b .1)))) (pastValue s set (b .1) (b .0)) (Done PidNotFound)
+      (found-done (lengthFrom (set .mode) (lcOf (a .0)) (b .0)) (valueFrom (set .mode) (lcOf (a .0)) (b .1))) (past-there s set (b .1) (b .0)) (b .3)
 
   pub xcdr2-never-missing : (c : Cursor) → seekToPid s set wanted c ≡ PidNotFound → ⊥
   unfolding seekToPid

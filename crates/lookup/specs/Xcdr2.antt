@@ -1,11 +1,13 @@
 -- The XCDR2 search for a header by its id.
-use Prim.Native.Nat.{ℕ, _-_, _*_, _/_, _%_, _^_}
+use Prim.Native.Nat.{ℕ, _+_, _-_, _*_, _/_, _%_, _^_}
 use mathlib.Core.List.{List, [], _∷_}
 use lib.ListN.{getD}
 use lib.Dec.{eqb, ltb}
-use Rattle.ground.specs.Choice.{pick}
+use Rattle.ground.specs.Choice.{pick, _‥_, within}
 use Rattle.wire.specs.Place.{cursorAt}
 use Rattle.wire.specs.Number.{readNumber, afterNumber}
+use Rattle.wire.specs.declared.settings.Mode.{Mode}
+use Rattle.wire.specs.declared.settings.Mode.the-variants.{Crate, Standard}
 use Rattle.wire.specs.declared.settings.Settings.{Settings}
 use Rattle.wire.specs.declared.cursor.Cursor.{Cursor}
 use Rattle.wire.specs.declared.number.Number.{Number}
@@ -40,18 +42,24 @@ lengthByLc s set lc c = pick (ltb lc 4) (number.Got (fixedLength lc) c) (nextint
 unfoldable pub lengthOf : List ℕ → Settings → ℕ → Cursor → Number
 lengthOf s set emheader c = lengthByLc s set (lcOf emheader) c
 
--- "LC 5 steps back 4 on a match."
-unfoldable pub stepBack : ℕ → ℕ
-stepBack lc = pick (eqb lc 5) 4 0
+-- "LC 5 steps back 4 on a match."; in the standard's mode, order 1: "with LC 5, 6 and 7 NEXTINT is also the first four bytes of the member"
+unfoldable pub stepBack : Mode → ℕ → ℕ
+stepBack Crate lc = pick (eqb lc 5) 4 0
+stepBack Standard lc = pick (within (5 ‥ 7) lc) 4 0
 
 -- where a value stands whose whole header ends at c
-abbrev pub valueFrom : ℕ → Cursor → Cursor
-valueFrom lc c = cursorAt (c .pos - stepBack lc) (c .origin)
+abbrev pub valueFrom : Mode → ℕ → Cursor → Cursor
+valueFrom mode lc c = cursorAt (c .pos - stepBack mode lc) (c .origin)
+
+-- the length that is found: the header's; in the standard's mode the member's own, counted from where its value begins
+unfoldable pub lengthFrom : Mode → ℕ → ℕ → ℕ
+lengthFrom Crate lc n = n
+lengthFrom Standard lc n = n + stepBack Standard lc
 
 -- what a header comes to: a match "of any length", or another's
 unfoldable pub verdict : List ℕ → Settings → ℕ → ℕ → ℕ → Cursor → Turn
 verdict s set wanted emheader n c =
-    pick (eqb (idOf emheader) wanted) (Done (Found n (valueFrom (lcOf emheader) c))) (pastValue s set c n)
+    pick (eqb (idOf emheader) wanted) (Done (Found (lengthFrom (set .mode) (lcOf emheader) n) (valueFrom (set .mode) (lcOf emheader) c))) (pastValue s set c n)
 
 -- "then u32 headers": the header, the NEXTINT that it may have, and what they come to
 unfoldable pub turnAt : List ℕ → Settings → ℕ → Cursor → Turn
@@ -59,6 +67,6 @@ turnAt s set wanted c =
     afterNumber ranShort (readNumber s set c 4) (λ emheader d.
     afterNumber ranShort (lengthOf s set emheader d) (λ n e. verdict s set wanted emheader n e))
 
--- "The search does not stop at the structure's end."
+-- "The search does not stop at the structure's end." Order 1's "a lookup ends at its DHEADER's end": there the data ends that it is given
 unfoldable pub seekToPid : List ℕ → Settings → ℕ → Cursor → Seek
 seekToPid s set wanted c = seekBy s (turnAt s set wanted) c

@@ -11,6 +11,7 @@ use crate::xcdr1::PID_LIST_END;
 use crate::xcdr1::seek_to_sentinel;
 use crate::xcdr2::fixed_length;
 use crate::xcdr2::lc;
+use crate::xcdr2::length_from;
 use crate::xcdr2::step_back;
 use crate::xcdr2::unit;
 use wire::cursor::Cursor;
@@ -65,6 +66,7 @@ fn with_nextint(s: &[u8], set: Settings, emheader: u64, pos: usize, origin: usiz
     ensures { λ r. ⌜ AheadIs (now (s .entry)) set (idOf emheader) (cursorAt pos origin) r ⌝ }
 {
     let order = set.order;
+    let mode = set.mode;
     let head = pos + 4;
     if s.len() - head < 4 {
         return no_header();
@@ -76,7 +78,11 @@ fn with_nextint(s: &[u8], set: Settings, emheader: u64, pos: usize, origin: usiz
     }
     let body = head + 4;
     let next = next_header(s, body, length, origin);
-    ahead_of(body - step_back(code), length, next)
+    ahead_of(
+        body - step_back(mode, code),
+        length_from(mode, code, length),
+        next,
+    )
 }
 
 // A header of XCDR2.
@@ -85,6 +91,7 @@ fn xcdr2(s: &[u8], set: Settings, wanted: u64, pos: usize, origin: usize) -> Ahe
     ensures { λ r. ⌜ AheadIs (now (s .entry)) set wanted (cursorAt pos origin) r ⌝ }
 {
     let order = set.order;
+    let mode = set.mode;
     let emheader = from_bytes(s, order, pos, 4);
     if crate::xcdr2::id(emheader) != wanted {
         return no_header();
@@ -96,7 +103,11 @@ fn xcdr2(s: &[u8], set: Settings, wanted: u64, pos: usize, origin: usize) -> Ahe
     let head = pos + 4;
     let length = fixed_length(code);
     let next = next_header(s, head, length, origin);
-    ahead_of(head - step_back(code), length, next)
+    ahead_of(
+        head - step_back(mode, code),
+        length_from(mode, code, length),
+        next,
+    )
 }
 
 // A header of XCDR1. An empty one is left to the search, and so is the end marker.

@@ -1,12 +1,15 @@
-// The search of XCDR2: EMHEADERs of 32 bits, an id below a length code, the longer lengths in a NEXTINT after it. It has no end marker
-// and does not know where its structure ends.
+// The search of XCDR2: EMHEADERs of 32 bits, an id below a length code, the longer lengths in a NEXTINT after it. It has no end marker,
+// and no other end than the data's, which is cut at the structure's where ends are kept.
 ghost use mathlib.Core.Path.{_≡_};
 ghost use Prim.Native.Nat.{_<_, _≤_};
-ghost use Rattle.lookup.specs.Xcdr2.{idOf, lcOf, fixedLength, unitOf, stepBack, nextintTimes, lengthOf, turnAt, seekToPid};
+ghost use Prim.Native.Nat.{_^_};
+ghost use Rattle.wire.specs.Code.Reads.{Small};
+ghost use Rattle.lookup.specs.Xcdr2.{idOf, lcOf, fixedLength, unitOf, stepBack, lengthFrom, nextintTimes, lengthOf, turnAt, seekToPid};
 use crate::search::Seek;
 use crate::search::Turn;
 use wire::cursor::Cursor;
 use wire::number::Number;
+use wire::settings::Mode;
 use wire::settings::Settings;
 
 pub fn id(emheader: u64) -> u64
@@ -48,17 +51,31 @@ pub fn unit(lc: u64) -> u64
     }
 }
 
-// How far a value that was found begins before the end of its header: LC 5 alone gives NEXTINT back to it.
-pub fn step_back(lc: u64) -> usize
-    ensures { λ r. ⌜ (r ≡ stepBack lc) × (r ≤ 4) ⌝ }
+// How far a value that was found begins before the end of its header: which length codes give NEXTINT back to it.
+pub fn step_back(mode: Mode, lc: u64) -> usize
+    ensures { λ r. ⌜ (r ≡ stepBack mode lc) × (r ≤ 4) ⌝ }
 {
-    if lc == 5 { 4 } else { 0 }
+    match mode {
+        Mode::Crate => { if lc == 5 { 4 } else { 0 } }
+        Mode::Standard => { if ground::in_range(lc, 5, 7) { 4 } else { 0 } }
+    }
+}
+
+// The length that is found, of a header that tells n: in the standard's mode NEXTINT's four bytes are counted too, where they are the member's.
+pub fn length_from(mode: Mode, lc: u64, n: u64) -> u64
+    requires { ⌜ n < 256 ^ 5 ⌝ }
+    ensures { λ r. ⌜ r ≡ lengthFrom mode lc n ⌝ }
+{
+    match mode {
+        Mode::Crate => n,
+        Mode::Standard => n + (step_back(Mode::Standard, lc) as u64),
+    }
 }
 
 // A length in units of `unit` bytes, and the cursor after NEXTINT.
 fn nextint_times(s: &[u8], set: Settings, unit: u64, at: Cursor) -> Number
     requires { ⌜ unit ≤ 8 ⌝ }
-    ensures { λ r. ⌜ r ≡ nextintTimes (now (s .entry)) set unit at ⌝ }
+    ensures { λ r. ⌜ (r ≡ nextintTimes (now (s .entry)) set unit at) × Small 5 r ⌝ }
 {
     let nextint = wire::number::read_number(s, set, at, 4);
     match nextint {
@@ -69,7 +86,7 @@ fn nextint_times(s: &[u8], set: Settings, unit: u64, at: Cursor) -> Number
 
 // The length that the header tells, and the cursor after the whole header.
 fn length(s: &[u8], set: Settings, emheader: u64, at: Cursor) -> Number
-    ensures { λ r. ⌜ r ≡ lengthOf (now (s .entry)) set emheader at ⌝ }
+    ensures { λ r. ⌜ (r ≡ lengthOf (now (s .entry)) set emheader at) × Small 5 r ⌝ }
 {
     let code = lc(emheader);
     if code < 4 {
@@ -83,19 +100,22 @@ fn turn(s: &[u8], set: Settings, pid: u32, at: Cursor) -> Turn
     ensures { λ r. ⌜ r ≡ turnAt (now (s .entry)) set pid at ⌝ }
 {
     let wanted = pid as u64;
+    let mode = set.mode;
     let head = wire::number::read_number(s, set, at, 4);
     match head {
         Number::Short(x) => Turn::Done(Seek::Short(x)),
         Number::Got(emheader, c) => {
-            let size = length(s, set, emheader, c);
-            match size {
+            let told = length(s, set, emheader, c);
+            match told {
                 Number::Short(x) => Turn::Done(Seek::Short(x)),
                 Number::Got(n, d) => {
                     if id(emheader) == wanted {
                         let pos = d.pos;
                         let origin = d.origin;
-                        let back = step_back(lc(emheader));
-                        return Turn::Done(Seek::Found(n, Cursor::new(pos - back, origin)));
+                        let code = lc(emheader);
+                        let back = step_back(mode, code);
+                        let size = length_from(mode, code, n);
+                        return Turn::Done(Seek::Found(size, Cursor::new(pos - back, origin)));
                     }
                     crate::search::past_value(s, set, d, n)
                 }

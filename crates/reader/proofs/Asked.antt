@@ -1,13 +1,18 @@
 -- Laws of what the cycle asks of a type or a member. Assumes nothing.
 use Prim.Native.Nat.{ℕ, _/_, _<_}
-use mathlib.Core.Path.{_≡_, sym, ap, _∙_}
-use mathlib.Core.Bool.{Bool, false, _||_, _&&_}
-use mathlib.Core.List.{List}
+use mathlib.Core.Path.{_≡_, refl, sym, ap, _∙_}
+use mathlib.Core.Bool.{Bool, true, false, not, _||_, _&&_, or-false}
+use mathlib.Core.List.{List, [], _∷_}
 use lib.Dec.{eqb}
 use borrow.Author.Tests.{eq-eqb, ne-eqb}
+use Rattle.ground.specs.Choice.{both, among}
 use Rattle.ground.proofs.Tests.{and-both}
+use Rattle.wire.specs.declared.settings.Settings.{Settings}
+use Rattle.wire.specs.Ends.{keepsEnds}
 use Rattle.wire.specs.declared.settings.Version.{Version}
 use Rattle.wire.specs.declared.settings.Version.the-variants.{Xcdr1, Xcdr2}
+use Rattle.wire.specs.declared.settings.Mode.{Mode}
+use Rattle.wire.specs.declared.settings.Mode.the-variants.{Crate, Standard}
 use Rattle.kinds.specs.Kinds.{elementSizeOf, isPrimitive, bitmaskStored}
 use Rattle.kinds.proofs.Table.{element-some}
 use Rattle.book.specs.Types.{BookType, Member, byte, quad, typeOf, bounded, typeNo}
@@ -15,7 +20,7 @@ use Rattle.book.specs.Places.{from, typeAt, typesBy, PlaceOf}
 use Rattle.reader.specs.Value.{isSequence, primitiveElement, readAs}
 use Rattle.reader.specs.Member.{byLength, elementCount}
 use Rattle.reader.specs.Structure.{absorbs}
-use Rattle.reader.specs.Nested.{isMutable}
+use Rattle.reader.specs.Nested.{isMutable, isStructure, isDelimited, mayFailUnheard}
 
 pub sequence-is : (t : BookType) (k : ℕ) → k ≡ t .kind → eqb k 25 ≡ isSequence t
 unfolding isSequence
@@ -24,6 +29,18 @@ sequence-is t k e = rw e
 pub mutable-is : (t : BookType) (k : ℕ) → k ≡ t .extensibility → eqb k 2 ≡ isMutable t
 unfolding isMutable
 mutable-is t k e = rw e
+
+pub delimited-is : (t : BookType) (e : ℕ) → e ≡ t .extensibility → (eqb e 1 || eqb e 2) ≡ isDelimited t
+unfolding isDelimited
+delimited-is t e f = let a : (eqb e 1 || eqb e 2) ≡ among (1 ∷ 2 ∷ []) e = simp or-false in a ∙ ap (λ (x : ℕ). among (1 ∷ 2 ∷ []) x) f
+
+pub unheard-is : (set : Settings) (t : BookType) (x y : Bool) (k : ℕ) → x ≡ keepsEnds set → y ≡ isMutable t → k ≡ t .kind → ((not x && y) && not (eqb k 22)) ≡ mayFailUnheard set t
+unfolding mayFailUnheard isStructure
+unheard-is set t x y k e f g = rw (← e, ← f, ← g) (go x y (not (eqb k 22)))
+  where
+    go : (a b c : Bool) → ((not a && b) && c) ≡ both (not a) (both b c)
+    go true b c = refl
+    go false b c = and-both b c
 
 pub absorbs-is : (t : BookType) (m : Member) (e k : ℕ) → e ≡ t .extensibility → k ≡ m .construct → (eqb e 1 || eqb k 0) ≡ absorbs t m
 unfolding absorbs
@@ -70,11 +87,15 @@ module _ (b index : List ℕ) (t : BookType) (ty q k : ℕ) (element : ty ≡ t 
 pub size-some : (k x : ℕ) → x ≡ elementSizeOf k → 0 < x
 size-some k x e = rw e (element-some k)
 
-module _ (v : Version) (types : List BookType) (t : BookType) where
-  pub length-never : v ≡ Xcdr1 → false ≡ byLength v types t
+module _ (v : Version) (m : Mode) (types : List BookType) (t : BookType) where
+  pub length-never : v ≡ Xcdr1 → false ≡ byLength v m types t
   unfolding byLength
   length-never e = rw e
 
-  pub length-both : v ≡ Xcdr2 → (x y : Bool) → x ≡ isSequence t → y ≡ primitiveElement types t → (x && y) ≡ byLength v types t
+  pub length-both : v ≡ Xcdr2 → m ≡ Crate → (x y : Bool) → x ≡ isSequence t → y ≡ primitiveElement types t → (x && y) ≡ byLength v m types t
   unfolding byLength
-  length-both e x y f g = rw (e, ← f, ← g) (and-both x y)
+  length-both e f x y g h = rw (e, f, ← g, ← h) (and-both x y)
+
+  pub length-own : v ≡ Xcdr2 → m ≡ Standard → false ≡ byLength v m types t
+  unfolding byLength
+  length-own e f = rw (e, f)

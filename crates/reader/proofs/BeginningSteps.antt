@@ -1,13 +1,11 @@
 -- Laws of what begins a structure or a union, and of what ends a Mutable structure. Assumes nothing.
 use Prim.Native.Nat.{ℕ}
 use mathlib.Core.Path.{_≡_, refl, sym, ap, _∙_}
-use mathlib.Core.Bool.{Bool, true, false, not, _||_, _&&_, or-false}
-use mathlib.Core.List.{List, [], _∷_}
+use mathlib.Core.Bool.{Bool, true, false}
+use mathlib.Core.List.{List, []}
 use native.Mathlib.Nat.{add-zero}
 use lib.ListN.{length}
-use lib.Dec.{eqb}
-use Rattle.ground.specs.Choice.{both, among}
-use Rattle.ground.proofs.Tests.{and-both}
+use borrow.Author.Tests.{eq-eqb, ne-eqb}
 use Rattle.wire.specs.declared.cursor.Cursor.{Cursor}
 use Rattle.wire.specs.declared.cursor.Shortage.{Shortage}
 use Rattle.wire.specs.declared.cursor.Place.{Place}
@@ -16,49 +14,84 @@ use Rattle.wire.specs.declared.settings.Settings.{Settings}
 use Rattle.wire.specs.declared.settings.Version.{Version}
 use Rattle.wire.specs.declared.settings.Version.the-variants.{Xcdr1, Xcdr2}
 use Rattle.wire.specs.declared.dheader.Contents.{Contents}
-use Rattle.wire.specs.declared.dheader.Contents.the-variants.{Between, Short}
+use Rattle.wire.specs.declared.dheader.Contents.the-variants.{Between, Past, Short}
 use Rattle.wire.specs.Place.{cursorAt}
 use Rattle.wire.specs.Dheader.{contentsAt}
 use Rattle.wire.proofs.Moves.{after-at, after-short}
 use Rattle.book.specs.Places.{typeAt}
 use Rattle.lookup.specs.Xcdr1.{seekToSentinel}
+use Rattle.table.specs.declared.out.Refusal.{Refusal}
+use Rattle.table.specs.declared.out.Refusal.the-variants.{InvalidData}
+use Rattle.table.specs.declared.out.Out.{Out}
 use Rattle.table.specs.declared.out.Out.the-variants as out
 use Rattle.table.specs.Outcome.{read}
 use Rattle.table.specs.Code.Outcome.{Done}
 use Rattle.table.proofs.Filling.{filled-none}
 use Rattle.table.proofs.Outcomes.{is-read, is-short}
-use Rattle.reader.specs.Nested.{isMutable, isStructure, isDelimited, unheard, heardIf, beginningOf, endingBy}
+use Rattle.reader.specs.Code.Ending.{standingAt, endingAt}
+use Rattle.reader.specs.Nested.{isDelimited, unheard, unheardIf, mayFailUnheard, beginningOf, endingBy}
 
-module _ (s : List ℕ) (set : Settings) (b : List ℕ) (at : ℕ) (c : Cursor) (e : ℕ) (ext : e ≡ typeAt b at .extensibility) (g : Contents) (is : g ≡ contentsAt s set (eqb e 1 || eqb e 2) c) where
-  delimited : (eqb e 1 || eqb e 2) ≡ isDelimited (typeAt b at)
-  unfolding isDelimited
-  delimited = let a : (eqb e 1 || eqb e 2) ≡ among (1 ∷ 2 ∷ []) e = simp or-false in a ∙ ap (λ (x : ℕ). among (1 ∷ 2 ∷ []) x) ext
-
-  by : beginningOf s set (typeAt b at) c ≡ heardIf s set (both (isMutable (typeAt b at)) (not (isStructure (typeAt b at)))) g
+module _ (s : List ℕ) (set : Settings) (b : List ℕ) (at : ℕ) (c : Cursor) (o : Bool) (delimited : o ≡ isDelimited (typeAt b at)) (g : Contents) (is : g ≡ contentsAt s set o c) where
+  by : (h : Contents) → g ≡ h → beginningOf s set (typeAt b at) c ≡ unheardIf s set (mayFailUnheard set (typeAt b at)) h
   unfolding beginningOf
-  by = ap (λ (y : Bool). heardIf s set (both (isMutable (typeAt b at)) (not (isStructure (typeAt b at)))) (contentsAt s set y c)) (sym delimited)
-      ∙ ap (heardIf s set (both (isMutable (typeAt b at)) (not (isStructure (typeAt b at))))) (sym is)
+  by h q = ap (λ (y : Bool). unheardIf s set (mayFailUnheard set (typeAt b at)) (contentsAt s set y c)) (sym delimited)
+      ∙ ap (unheardIf s set (mayFailUnheard set (typeAt b at))) (sym is ∙ q)
 
+  -- what is no shortage is heard by all
   pub beginning-between : (d : Cursor) (end : ℕ) → g ≡ Between d end → Between d end ≡ beginningOf s set (typeAt b at) c
-  unfolding heardIf unheard
-  beginning-between d end q = sym (by ∙ ap (heardIf s set (both (isMutable (typeAt b at)) (not (isStructure (typeAt b at))))) q ∙ go (both (isMutable (typeAt b at)) (not (isStructure (typeAt b at)))))
+  unfolding unheardIf unheard
+  beginning-between d end q = sym (by (Between d end) q ∙ go (mayFailUnheard set (typeAt b at)))
     where
-      go : (y : Bool) → heardIf s set y (Between d end) ≡ Between d end
+      go : (y : Bool) → unheardIf s set y (Between d end) ≡ Between d end
       go true = refl
       go false = refl
 
-  module _ (k : ℕ) (kind : k ≡ typeAt b at .kind) (x : Shortage) (q : g ≡ Short x) where
-    tested : (y : Bool) → (eqb e 2 && not (eqb k 22)) ≡ y → both (isMutable (typeAt b at)) (not (isStructure (typeAt b at))) ≡ y
-    unfolding isMutable isStructure
-    tested y f = rw (← ext, ← kind) (sym (and-both (eqb e 2) (not (eqb k 22))) ∙ f)
+  pub beginning-past : g ≡ Past → Past ≡ beginningOf s set (typeAt b at) c
+  unfolding unheardIf unheard
+  beginning-past q = sym (by Past q ∙ go (mayFailUnheard set (typeAt b at)))
+    where
+      go : (y : Bool) → unheardIf s set y Past ≡ Past
+      go true = refl
+      go false = refl
 
-    pub beginning-unheard : (eqb e 2 && not (eqb k 22)) ≡ true → Between (x .at) (length s) ≡ beginningOf s set (typeAt b at) c
-    unfolding heardIf unheard
-    beginning-unheard f = sym (by ∙ ap (λ (y : Bool). heardIf s set y g) (tested true f) ∙ ap (unheard s set) q)
+  module _ (x : Shortage) (q : g ≡ Short x) (y : Bool) (may : y ≡ mayFailUnheard set (typeAt b at)) where
+    pub beginning-unheard : y ≡ true → Between (x .at) (length s) ≡ beginningOf s set (typeAt b at) c
+    unfolding unheardIf unheard
+    beginning-unheard f = sym (by (Short x) q ∙ rw (sym may ∙ f))
 
-    pub beginning-short : (eqb e 2 && not (eqb k 22)) ≡ false → Short x ≡ beginningOf s set (typeAt b at) c
-    unfolding heardIf
-    beginning-short f = sym (by ∙ ap (λ (y : Bool). heardIf s set y g) (tested false f) ∙ q)
+    pub beginning-short : y ≡ false → Short x ≡ beginningOf s set (typeAt b at) c
+    unfolding unheardIf
+    beginning-short f = sym (by (Short x) q ∙ rw (sym may ∙ f))
+
+-- what a DHEADER's end makes of an answer
+module _ (end : ℕ) (o : Out) where
+  pub standing-read : (c : Cursor) (n : ℕ) → o ≡ out.Read c n → (d : Cursor) → d ≡ cursorAt end (c .origin) → out.Read d n ≡ standingAt end o
+  unfolding standingAt
+  standing-read c n q d e = rw (q, e)
+
+  pub standing-short : (x : Shortage) → o ≡ out.Short x → out.Short x ≡ standingAt end o
+  unfolding standingAt
+  standing-short x q = rw q
+
+  pub standing-refused : (k : Refusal) → o ≡ out.Refused k → out.Refused k ≡ standingAt end o
+  unfolding standingAt
+  standing-refused k q = rw q
+
+  pub ending-read : (c : Cursor) (n : ℕ) → o ≡ out.Read c n → c .pos ≡ end → out.Read c n ≡ endingAt end o
+  unfolding endingAt
+  ending-read c n q e = rw (q, eq-eqb (c .pos) end e)
+
+  pub ending-not : (c : Cursor) (n : ℕ) → o ≡ out.Read c n → (c .pos ≡ end → ⊥) → out.Refused InvalidData ≡ endingAt end o
+  unfolding endingAt
+  ending-not c n q e = rw (q, ne-eqb (c .pos) end e)
+
+  pub ending-fell : (x : Shortage) → o ≡ out.Short x → out.Short x ≡ endingAt end o
+  unfolding endingAt
+  ending-fell x q = rw q
+
+  pub ending-refused : (k : Refusal) → o ≡ out.Refused k → out.Refused k ≡ endingAt end o
+  unfolding endingAt
+  ending-refused k q = rw q
 
 -- what ends a Mutable structure
 module _ (s : List ℕ) (set : Settings) (end : ℕ) (c : Cursor) (n : ℕ) (t : List ℕ) where

@@ -18,6 +18,7 @@ use Rattle.wire.specs.declared.settings.Settings.{Settings}
 use Rattle.wire.specs.declared.settings.Version.{Version}
 use Rattle.wire.specs.declared.settings.Version.the-variants.{Xcdr1, Xcdr2}
 use Rattle.wire.specs.Place.{cursorAt, broughtBack, alignTo, afterMove}
+use Rattle.wire.specs.Ends.{cutAt}
 use Rattle.wire.proofs.Moves.{align-twice, after-at, after-short}
 use Rattle.book.specs.declared.member.Run.{Run}
 use Rattle.book.specs.Types.{BookType, Member}
@@ -34,7 +35,7 @@ use Rattle.lookup.specs.declared.ahead.Hint.{Hint}
 use Rattle.lookup.specs.declared.ahead.Start.{Start}
 use Rattle.lookup.specs.declared.ahead.Start.the-variants as start
 use Rattle.lookup.specs.declared.ahead.Ahead.{Ahead}
-use Rattle.lookup.specs.Code.Ahead.{TrueHint, hintAfter, firstLookup, StartIs}
+use Rattle.lookup.specs.Code.Ahead.{TrueHint, hintAfter, firstLookup, StartIs, valueAt}
 use Rattle.table.specs.declared.rows.Row.{Row}
 use Rattle.table.specs.declared.out.Refusal.{Refusal}
 use Rattle.table.specs.declared.out.Out.{Out}
@@ -47,7 +48,7 @@ use Rattle.table.proofs.Outcomes.{is-read, is-short, is-refused, is-same, is-af
 use Rattle.values.specs.Code.Quick.{Quickly}
 use Rattle.values.proofs.Quickly.{quick-done, quick-none, quick-next}
 use Rattle.reader.specs.Value.{Nest}
-use Rattle.reader.specs.Member.{foundOf, onLocated, mmemberOf}
+use Rattle.reader.specs.Member.{foundValue, foundOf, onLocated, mmemberOf}
 use Rattle.reader.specs.Structure.{mmembersOf}
 use Rattle.reader.specs.Nested.{endingBy}
 
@@ -213,13 +214,13 @@ module _ {types : List BookType} {s : List ℕ} {set : Settings} {nest : Nest} {
       let o : then-end s set end (left-from (listed b ms) back (room u m)) ≡ endingBy s set (set .version) end back = rw (run-none b ms l) (sym (prepend-nil (endingBy s set (set .version) end back))) in
       is-same (inv .so .same ∙ ap (prepend (inv .so .new)) o) (is-after (inv .so .filled) (rw (inv .so .count) at (d u)))
 
-  -- a member that was found where the hint says
-  module _ {size : ℕ} {c : Cursor} (there : locate s set (memberAt b (ms .at) .id) back ≡ located.Found size c back) where
-    came : mmemberOf types s set nest wanted back (room u m) ≡ backTo back (foundOf types s set nest wanted size c (room u m))
-    unfolding mmemberOf onLocated
-    came = ap (onLocated types s set nest wanted (room u m)) there
+  -- a member that was found where the hint says, from its own data
+  module _ {size : ℕ} {c : Cursor} (there : locate s set (memberAt b (ms .at) .id) back ≡ located.Found size c back) {own : List ℕ} (cut : own ≡ cutAt set s (c .pos + size)) where
+    came : mmemberOf types s set nest wanted back (room u m) ≡ backTo back (foundValue types own set nest wanted size c (room u m))
+    unfolding mmemberOf onLocated foundOf
+    came = ap (onLocated types s set nest wanted (room u m)) there ∙ ap (λ (x : List ℕ). backTo back (foundValue types x set nest wanted size c (room u m))) (sym cut)
 
-    module _ (l : 0 < ms .left) {v : List ℕ} {r : Out} (d : Done (foundOf types s set nest (memberAt b (ms .at)) size c (room u m)) m u v r) where
+    module _ (l : 0 < ms .left) {v : List ℕ} {r : Out} (d : Done (foundValue types own set nest (memberAt b (ms .at)) size c (room u m)) m u v r) where
       pub found-turn : {e : Cursor} {k : ℕ} {ns : Run} {g : Hint} → r ≡ Read e k → After b ms ns → TrueHint s set back (back .origin) g → LookedSofar types s set nest back b end whole n t v ns k g
       unfolding backTo
       found-turn {k = k} {ns} {g} q a y = let w = was-read d q in member-turn l {r = Read back k} (is-read (came ∙ ap (backTo back) (w .is)) (w .count) (w .filled)) back k ns g refl a y
@@ -233,15 +234,15 @@ module _ {types : List BookType} {s : List ℕ} {set : Settings} {nest : Nest} {
       found-refused {k} q = let w = was-refused d q in looked-refused l {r = Refused k} (is-refused (came ∙ ap (backTo back) (w .is)) (w .filled)) refl
 
     -- .. and was taken where it stands, or left alone
-    module _ (v : List ℕ) (x : ℕ) (q : (f : Nest) (j : ℕ) → Quickly (foundOf types s set f (memberAt b (ms .at)) j c (room u m)) 1 m (c .origin) u v x) where
+    module _ (v : List ℕ) (x : ℕ) (q : (f : Nest) (j : ℕ) → Quickly (foundValue types own set f (memberAt b (ms .at)) j c (room u m)) 1 m (c .origin) u v x) where
       pub found-quick : 0 < ms .left → 0 < x → {ns : Run} {g : Hint} → After b ms ns → TrueHint s set back (back .origin) g → LookedSofar types s set nest back b end whole n t v ns (m + 1) g
       found-quick l y a z = found-turn l {r = Read (cursorAt x (c .origin)) (m + 1)} (quick-done 1 x y (q nest size)) refl a z
 
-  pub found-next : (c : Cursor) (v : List ℕ) (x : ℕ) → ((f : Nest) (j : ℕ) → Quickly (foundOf types s set f (memberAt b (ms .at)) j c (room u m)) 1 m (c .origin) u v x) → 0 < x → length t < 2 ^ 64 → Fits w64 (m + 1)
-  found-next c v x q y k = quick-next _ _ _ _ _ x y (q (λ ty id d r. read d []) 0) (rw (← (inv .so .filled .long)) at k)
+  pub found-next : (own : List ℕ) (c : Cursor) (v : List ℕ) (x : ℕ) → ((f : Nest) (j : ℕ) → Quickly (foundValue types own set f (memberAt b (ms .at)) j c (room u m)) 1 m (c .origin) u v x) → 0 < x → length t < 2 ^ 64 → Fits w64 (m + 1)
+  found-next own c v x q y k = quick-next _ _ _ _ _ x y (q (λ w ty id d r. read d []) 0) (rw (← (inv .so .filled .long)) at k)
 
-  pub found-still : (c : Cursor) (v : List ℕ) (x : ℕ) → ((f : Nest) (j : ℕ) → Quickly (foundOf types s set f (memberAt b (ms .at)) j c (room u m)) 1 m (c .origin) u v x) → x ≤ 0 → LookedSofar types s set nest back b end whole n t v ms m h
-  found-still c v x q none = rw (quick-none _ 1 m (c .origin) u v x none (q nest 0)) inv
+  pub found-still : (own : List ℕ) (c : Cursor) (v : List ℕ) (x : ℕ) → ((f : Nest) (j : ℕ) → Quickly (foundValue types own set f (memberAt b (ms .at)) j c (room u m)) 1 m (c .origin) u v x) → x ≤ 0 → LookedSofar types s set nest back b end whole n t v ms m h
+  found-still own c v x q none = rw (quick-none _ 1 m (c .origin) u v x none (q nest 0)) inv
 
 -- a table that is as long as it was
 pub same-long : {t u v : List ℕ} {whole rest o : Outcome} {n m : ℕ} {r : Out} → Sofar whole rest n t u m → Done o m u v r → length v ≡ length t
@@ -253,6 +254,15 @@ small-as e h = rw e h
 
 pub found-at : (s : List ℕ) (set : Settings) (i : ℕ) {size : ℕ} {c d back : Cursor} → c ≡ d → locate s set i back ≡ located.Found size d back → locate s set i back ≡ located.Found size c back
 found-at s set i {size} {back = back} e f = f ∙ ap (λ (x : Cursor). located.Found size x back) (sym e)
+
+-- .. and of a member's own data
+pub own-at : (s : List ℕ) (set : Settings) (v o size : ℕ) {c : Cursor} {own : List ℕ} → c ≡ valueAt (set .version) v o → own ≡ cutAt set s (v + size) → own ≡ cutAt set s (c .pos + size)
+unfolding valueAt
+own-at s set v o size {c} e f = f ∙ ap (λ (p : ℕ). cutAt set s (p + size)) (sym (ap (λ (x : Cursor). x .pos) e ∙ go (set .version)))
+  where
+    go : (x : Version) → valueAt x v o .pos ≡ v
+    go Xcdr1 = refl
+    go Xcdr2 = refl
 
 pub hint-on : (s : List ℕ) (set : Settings) (back : Cursor) (o : ℕ) (a : Ahead) {i j : ℕ} {g : Hint} → g ≡ hintAfter a i → i ≡ j → TrueHint s set back o (hintAfter a j) → TrueHint s set back o g
 hint-on s set back o a e f l = rw (e, f) l

@@ -1,5 +1,5 @@
 -- Laws of members: what each return shows. Assumes nothing.
-use Prim.Native.Nat.{ℕ, _-_}
+use Prim.Native.Nat.{ℕ, _+_, _-_}
 use mathlib.Core.Path.{_≡_, refl, sym, ap, _∙_}
 use mathlib.Core.Bool.{Bool, true, false}
 use mathlib.Core.List.{List, []}
@@ -19,6 +19,9 @@ use Rattle.table.proofs.Filling.{filled-none}
 use Rattle.table.proofs.Outcomes.{is-read, is-short, is-refused, is-same, was-read, was-short, was-refused}
 use Rattle.wire.specs.declared.settings.Version.{Version}
 use Rattle.wire.specs.declared.settings.Version.the-variants.{Xcdr1, Xcdr2}
+use Rattle.wire.specs.declared.settings.Mode.{Mode}
+use Rattle.wire.specs.declared.settings.Mode.the-variants.{Crate, Standard}
+use Rattle.wire.specs.Ends.{cutAt}
 use Rattle.wire.specs.declared.number.Boolean.{Boolean}
 use Rattle.wire.specs.declared.number.Boolean.the-variants as boolean
 use Rattle.wire.specs.Number.{readBoolean}
@@ -33,12 +36,13 @@ use Rattle.kinds.specs.Kinds.{opens}
 use Rattle.reader.specs.Value.{Nest, isSequence, elementsOf, valueOf}
 use Rattle.reader.specs.Code.Run.{runOf}
 use Rattle.reader.proofs.ValueSteps.{opened-kind, value-opens}
-use Rattle.reader.specs.Member.{byLength, elementCount, foundBy, foundOf, onLocated, mmemberOf, onPresent, optionalBy, fmemberBy, fmemberOf}
+use Rattle.reader.specs.Member.{byLength, elementCount, foundBy, foundValue, foundOf, onLocated, mmemberOf, onPresent, optionalBy, fmemberBy, fmemberOf}
 
-no-length : (types : List BookType) (v : Version) (t : BookType) → eqb (t .kind) 25 ≡ false → byLength v types t ≡ false
+no-length : (types : List BookType) (v : Version) (m : Mode) (t : BookType) → eqb (t .kind) 25 ≡ false → byLength v m types t ≡ false
 unfolding byLength isSequence
-no-length types Xcdr1 t e = refl
-no-length types Xcdr2 t e = rw e
+no-length types Xcdr1 m t e = refl
+no-length types Xcdr2 Crate t e = rw e
+no-length types Xcdr2 Standard t e = refl
 
 module _ (b index s : List ℕ) (set : Settings) (nest : Nest) (p : ℕ) (c : Cursor) (t : List ℕ) (n : ℕ) where
   abbrev m : Member
@@ -47,17 +51,17 @@ module _ (b index s : List ℕ) (set : Settings) (nest : Nest) (p : ℕ) (c : Cu
   -- the value of a member that was found
   module _ (length ty q : ℕ) (type : ty ≡ memberAt b p .type) (at : PlaceOf b index ty q) (i : ℕ) (named : i ≡ memberAt b p .id) where
     abbrev found : Outcome
-    found = foundOf (typesBy b index) s set nest m length c (room t n)
+    found = foundValue (typesBy b index) s set nest m length c (room t n)
 
     typed : typeAt b q ≡ typeNo (typesBy b index) (m .type)
     typed = at .is ∙ ap (typeNo (typesBy b index)) type
 
-    asked : (y : Bool) → y ≡ byLength (set .version) (typesBy b index) (typeAt b q) → byLength (set .version) (typesBy b index) (typeNo (typesBy b index) (m .type)) ≡ y
-    asked y g = ap (byLength (set .version) (typesBy b index)) (sym typed) ∙ sym g
+    asked : (y : Bool) → y ≡ byLength (set .version) (set .mode) (typesBy b index) (typeAt b q) → byLength (set .version) (set .mode) (typesBy b index) (typeNo (typesBy b index) (m .type)) ≡ y
+    asked y g = ap (byLength (set .version) (set .mode) (typesBy b index)) (sym typed) ∙ sym g
 
-    pub found-length : (y : Bool) → y ≡ byLength (set .version) (typesBy b index) (typeAt b q) → y ≡ true → (count e : ℕ) → count ≡ elementCount (typesBy b index) (typeAt b q) length → e ≡ typeAt b q .element → (u : List ℕ) (r : Out)
+    pub found-length : (y : Bool) → y ≡ byLength (set .version) (set .mode) (typesBy b index) (typeAt b q) → y ≡ true → (count e : ℕ) → count ≡ elementCount (typesBy b index) (typeAt b q) length → e ≡ typeAt b q .element → (u : List ℕ) (r : Out)
         → Done (elementsOf (typesBy b index) s set nest e i count c (room t n)) n t u r → Done found n t u r
-    unfolding foundOf foundBy
+    unfolding foundValue foundBy
     found-length y g h count e j k u r d =
         let e1 : typeNo (typesBy b index) (m .type) .element ≡ e = ap (λ (x : BookType). x .element) (sym typed) ∙ sym k in
         let e2 : elementCount (typesBy b index) (typeNo (typesBy b index) (m .type)) length ≡ count = ap (λ (x : BookType). elementCount (typesBy b index) x length) (sym typed) ∙ sym j in
@@ -66,16 +70,16 @@ module _ (b index s : List ℕ) (set : Settings) (nest : Nest) (p : ℕ) (c : Cu
         ∙ ap (λ (z : ℕ). elementsOf (typesBy b index) s set nest e (m .id) z c (room t n)) e2
         ∙ ap (λ (z : ℕ). elementsOf (typesBy b index) s set nest e z count c (room t n)) (sym named)) d
 
-    pub found-value : (y : Bool) → y ≡ byLength (set .version) (typesBy b index) (typeAt b q) → y ≡ false → (u : List ℕ) (r : Out) → Done (valueOf (typesBy b index) s set nest ty i c (room t n)) n t u r → Done found n t u r
-    unfolding foundOf foundBy
+    pub found-value : (y : Bool) → y ≡ byLength (set .version) (set .mode) (typesBy b index) (typeAt b q) → y ≡ false → (u : List ℕ) (r : Out) → Done (valueOf (typesBy b index) s set nest ty i c (room t n)) n t u r → Done found n t u r
+    unfolding foundValue foundBy
     found-value y g h u r d = is-same (ap (λ (z : Bool). foundBy (typesBy b index) s set nest z m length c (room t n)) (asked y g ∙ h) ∙ rw (← type, ← named)) d
 
     -- what opens is taken by no length
-    pub found-opens : (k : ℕ) → k ≡ typeAt b q .kind → (o : Bool) → o ≡ opens k → o ≡ true → (u : List ℕ) (r : Out) → Done (runOf nest ty i 1 0 c (room t n)) n t u r → Done found n t u r
-    unfolding foundOf foundBy
+    pub found-opens : (k : ℕ) → k ≡ typeAt b q .kind → (o : Bool) → o ≡ opens k → o ≡ true → (u : List ℕ) (r : Out) → Done (runOf nest s ty i 1 0 c (room t n)) n t u r → Done found n t u r
+    unfolding foundValue foundBy
     found-opens k kind o g h u r d =
         let z : eqb k 25 ≡ false = opened-kind k (sym g ∙ h) .2 in
-        let e : byLength (set .version) (typesBy b index) (typeNo (typesBy b index) (m .type)) ≡ false = ap (byLength (set .version) (typesBy b index)) (sym typed) ∙ no-length (typesBy b index) (set .version) (typeAt b q) (ap (λ (x : ℕ). eqb x 25) (sym kind) ∙ z) in
+        let e : byLength (set .version) (set .mode) (typesBy b index) (typeNo (typesBy b index) (m .type)) ≡ false = ap (byLength (set .version) (set .mode) (typesBy b index)) (sym typed) ∙ no-length (typesBy b index) (set .version) (set .mode) (typeAt b q) (ap (λ (x : ℕ). eqb x 25) (sym kind) ∙ z) in
         is-same (ap (λ (z : Bool). foundBy (typesBy b index) s set nest z m length c (room t n)) e ∙ rw (← type, ← named)) (value-opens b index s set nest ty i c t n q k at kind o g h u r d)
 
   -- a member by its lookup
@@ -94,10 +98,10 @@ module _ (b index s : List ℕ) (set : Settings) (nest : Nest) (p : ℕ) (c : Cu
     unfolding mmemberOf onLocated
     mmember-absent back e = is-read {rs = []} (rw (at-id ∙ e)) (sym (add-zero n)) (filled-none t n)
 
-    module _ (length : ℕ) (d back : Cursor) (e : g ≡ located.Found length d back) (u : List ℕ) (r : Out) (h : Done (foundOf (typesBy b index) s set nest m length d (room t n)) n t u r) where
-      came : looked ≡ backTo back (foundOf (typesBy b index) s set nest m length d (room t n))
-      unfolding mmemberOf onLocated
-      came = rw (at-id ∙ e)
+    module _ (length : ℕ) (d back : Cursor) (e : g ≡ located.Found length d back) (w : List ℕ) (own : w ≡ cutAt set s (d .pos + length)) (u : List ℕ) (r : Out) (h : Done (foundValue (typesBy b index) w set nest m length d (room t n)) n t u r) where
+      came : looked ≡ backTo back (foundValue (typesBy b index) w set nest m length d (room t n))
+      unfolding mmemberOf onLocated foundOf
+      came = rw (at-id ∙ e, ← own)
 
       pub mmember-read : (f : Cursor) (k : ℕ) → r ≡ Read f k → Done looked n t u (Read back k)
       unfolding backTo
@@ -156,7 +160,7 @@ module _ (b index s : List ℕ) (set : Settings) (nest : Nest) (p : ℕ) (c : Cu
     fmember-optional e u r d = is-same (by true e) d
 
     pub fmember-opens : o ≡ false → (ty i q k : ℕ) → ty ≡ memberAt b p .type → i ≡ memberAt b p .id → PlaceOf b index ty q → k ≡ typeAt b q .kind → (y : Bool) → y ≡ opens k → y ≡ true
-        → (u : List ℕ) (r : Out) → Done (runOf nest ty i 1 0 c (room t n)) n t u r → Done final n t u r
+        → (u : List ℕ) (r : Out) → Done (runOf nest s ty i 1 0 c (room t n)) n t u r → Done final n t u r
     unfolding fmemberBy
     fmember-opens e ty i q k j l at kind y g h u r d = is-same (by false e ∙ rw (← j, ← l)) (value-opens b index s set nest ty i c t n q k at kind y g h u r d)
 

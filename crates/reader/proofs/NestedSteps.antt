@@ -1,38 +1,99 @@
 -- Laws of opening a value: what each return shows. Assumes nothing.
 use Prim.Native.Nat.{ℕ, zero, suc, _+_, _-_, _*_, _≤_}
 use mathlib.Core.Path.{_≡_, refl, sym, ap, _∙_}
-use mathlib.Core.Bool.{Bool, true, false, not}
-use mathlib.Core.List.{List}
+use mathlib.Core.Bool.{Bool, true, false, not, _&&_}
+use mathlib.Core.List.{List, [], _∷_, append-nil}
 use native.Mathlib.Omega.{arith}
 use lib.ListN.{length}
 use lib.Dec.{eqb}
-use borrow.Author.Tests.{eq-eqb, ne-eqb}
+use borrow.Author.Tests.{eq-eqb, ne-eqb, eqb-true}
 use Rattle.wire.specs.declared.cursor.Cursor.{Cursor}
 use Rattle.wire.specs.declared.cursor.Shortage.{Shortage}
 use Rattle.wire.specs.declared.settings.Settings.{Settings}
+use Rattle.wire.specs.declared.settings.Mode.{Mode}
+use Rattle.wire.specs.declared.settings.Version.{Version}
+use Rattle.wire.specs.declared.settings.Version.the-variants.{Xcdr1, Xcdr2}
 use Rattle.table.specs.declared.out.Refusal.{Refusal}
 use Rattle.table.specs.declared.out.Out.{Out}
 use Rattle.table.specs.declared.out.Out.the-variants.{Read, Short, Refused}
 use Rattle.table.specs.Rows.{row, width, room, noRoom}
 use Rattle.table.specs.Code.Rows.{putRow}
-use Rattle.table.specs.Outcome.{Outcome, refused, roomFor, closed, andThen}
+use Rattle.table.specs.Outcome.{Outcome, read, refused, roomFor, closed, prepend, andThen}
 use Rattle.table.specs.Code.Outcome.{Done}
 use Rattle.table.proofs.Filling.{filled-none, full-fits}
-use Rattle.table.proofs.Outcomes.{is-short, is-refused, is-same, then-nil, row-full, row-read, row-short, row-refused}
+use Rattle.table.proofs.Outcomes.{is-read, is-short, is-refused, is-same, was-read, was-short, was-refused, then-read, then-short, then-refused, then-nil, row-full, row-read, row-short, row-refused}
 use Rattle.wire.specs.declared.dheader.Contents.{Contents}
 use Rattle.wire.specs.declared.dheader.Contents.the-variants as contents
-use Rattle.wire.proofs.Contents.{contents-short, contents-between}
-use Rattle.ground.specs.Choice.{both}
+use Rattle.wire.specs.Place.{cursorAt}
+use Rattle.wire.specs.Ends.{keepsEndsBy, keepsEnds, cutAt}
+use Rattle.wire.proofs.Contents.{contents-short, contents-between, contents-past}
+use Rattle.ground.specs.Choice.{pick, both, among}
+use Rattle.ground.proofs.Tests.{and-both}
 use Rattle.kinds.proofs.Table.{opened-stored}
 use Rattle.kinds.specs.Kinds.{storedOf, opens}
 use Rattle.book.specs.Types.{BookType, typeNo}
 use Rattle.book.specs.Places.{typeAt, typesBy, PlaceOf}
-use Rattle.table.specs.declared.out.Refusal.the-variants.{InvalidType, TooDeep, NoRoom}
+use Rattle.table.specs.declared.out.Refusal.the-variants.{InvalidData, InvalidType, TooDeep, NoRoom}
 use Rattle.values.specs.Scalar.{enumOf}
 use Rattle.reader.specs.Value.{Nest}
 use Rattle.reader.specs.Union.{membersBy}
 use Rattle.reader.specs.Structure.{fmembersOf, mmembersOf}
-use Rattle.reader.specs.Nested.{isMutable, isStructure, beginningOf, endingBy, endingIf, endingOf, membersIf, membersOf, delimitedOf, bodyBy, bodyOf, openedIf, tooDeepIf, nestedAt}
+use Rattle.reader.specs.Code.Ending.{standingAt}
+use Rattle.reader.specs.Nested.{isMutable, isStructure, isDelimited, beginningOf, endingBy, endingIf, hasEnding, endingOf, membersIf, membersOf, contentsOf, delimitedOf, bodyBy, bodyOf, openedIf, tooDeepIf, nestedAt}
+
+-- two tests
+and-first : (a b : Bool) → (a && b) ≡ true → a ≡ true
+and-first true b e = refl
+and-first false b e = e
+
+and-second : (a b : Bool) → (a && b) ≡ true → b ≡ true
+and-second true b e = e
+and-second false b e = absurd (let z : _≡_ {A = ℕ} 0 1 = cc in omega arith)
+
+both-swap : (a b : Bool) → both a b ≡ false → both b a ≡ false
+both-swap true true e = e
+both-swap true false e = refl
+both-swap false true e = refl
+both-swap false false e = refl
+
+-- a Mutable structure has an ending in both modes
+mutable-ends : (set : Settings) (t : BookType) → isStructure t ≡ true → isMutable t ≡ true → hasEnding set t ≡ true
+unfolding hasEnding isMutable isDelimited
+mutable-ends set t e f = go (keepsEnds set)
+  where
+    go : (x : Bool) → pick x (among (1 ∷ 2 ∷ []) (t .extensibility)) (both (eqb (t .extensibility) 2) (isStructure t)) ≡ true
+    go true = let g : t .extensibility ≡ 2 = eqb-true (t .extensibility) 2 f in rw g
+    go false = rw (e, f)
+
+-- where ends are kept, the version is XCDR2's
+module _ (s : List ℕ) (set : Settings) (end : ℕ) (kept : keepsEnds set ≡ true) where
+  at-end : (c : Cursor) → endingBy s set (set .version) end c ≡ read (cursorAt end (c .origin)) []
+  unfolding endingBy keepsEndsBy
+  at-end c = go (set .version) (set .mode) kept
+    where
+      go : (v : Version) (m : Mode) → keepsEndsBy v m ≡ true → endingBy s set v end c ≡ read (cursorAt end (c .origin)) []
+      go Xcdr1 m e = absurd (let z : _≡_ {A = ℕ} 0 1 = cc in omega arith)
+      go Xcdr2 m e = refl
+
+  stands-there : {o : Outcome} {n : ℕ} {t u : List ℕ} {r v : Out} → Done o n t u r → v ≡ standingAt end r → Done (andThen o (λ e used. endingBy s set (set .version) end e)) n t u v
+  unfolding andThen prepend standingAt
+  stands-there {o} {n} {t} {u} {r} {v} h f = go r refl
+    where
+      go : (x : Out) → r ≡ x → Done (andThen o (λ e used. endingBy s set (set .version) end e)) n t u v
+      go (Read c m) q =
+          let w = was-read h q in
+          rw (f ∙ ap (standingAt end) q) (is-read (then-read _ (w .is) ∙ ap (prepend (w .new)) (at-end c) ∙ ap (read (cursorAt end (c .origin))) (append-nil (w .new))) (w .count) (w .filled))
+      go (Short x) q = let w = was-short h q in rw (f ∙ ap (standingAt end) q) (is-short (then-short _ (w .is)) (w .filled))
+      go (Refused k) q = let w = was-refused h q in rw (f ∙ ap (standingAt end) q) (is-refused (then-refused _ (w .is)) (w .filled))
+
+-- what is not both
+pub no-mutable-structure : (b : List ℕ) (at k : ℕ) (y : Bool) → k ≡ typeAt b at .kind → y ≡ isMutable (typeAt b at) → (eqb k 22 && y) ≡ false → both (isStructure (typeAt b at)) (isMutable (typeAt b at)) ≡ false
+unfolding isStructure
+no-mutable-structure b at k y kind mutable e =
+    ap (λ (x : Bool). both x (isMutable (typeAt b at))) (sym structure) ∙ ap (both (eqb k 22)) (sym mutable) ∙ sym (and-both (eqb k 22) y) ∙ e
+  where
+    structure : eqb k 22 ≡ isStructure (typeAt b at)
+    structure = ap (λ (x : ℕ). eqb x 22) kind
 
 -- what stands beneath the row of a value
 module _ (types : List BookType) (s : List ℕ) (set : Settings) (nest : Nest) (b : List ℕ) (at : ℕ) (c : Cursor) (t : List ℕ) (n k : ℕ) (kind : k ≡ typeAt b at .kind) where
@@ -54,40 +115,60 @@ module _ (types : List BookType) (s : List ℕ) (set : Settings) (nest : Nest) (
 
     pub body-short : (x : Shortage) → g ≡ contents.Short x → Done body n t t (Short x)
     unfolding delimitedOf
-    body-short x q = is-short (no-enum ∙ contents-short _ _ (sym is ∙ q)) (filled-none t n)
+    body-short x q = is-short (no-enum ∙ contents-short _ _ _ (sym is ∙ q)) (filled-none t n)
 
-    module _ (d : Cursor) (end : ℕ) (q : g ≡ contents.Between d end) (y : Bool) (mutable : y ≡ isMutable (typeAt b at)) where
-      between : body ≡ andThen (membersOf types s set nest (typeAt b at) d (room t n)) (λ e used. endingOf s set (typeAt b at) end e)
-      unfolding delimitedOf
-      between = no-enum ∙ contents-between _ _ (sym is ∙ q)
+    pub body-past : g ≡ contents.Past → Done body n t t (Refused InvalidData)
+    unfolding delimitedOf
+    body-past q = is-refused (no-enum ∙ contents-past _ _ _ (sym is ∙ q)) (filled-none t n)
 
-      by-sort : (x z : Bool) → isStructure (typeAt b at) ≡ x → y ≡ z → body ≡ andThen (membersIf types s set nest x z (typeAt b at) d (room t n)) (λ e used. endingIf s set (both z x) end e)
-      unfolding membersOf endingOf
-      by-sort x z e f = between ∙ rw (e, sym mutable ∙ f)
+    module _ (d : Cursor) (end : ℕ) (q : g ≡ contents.Between d end) (w : List ℕ) (cut : w ≡ cutAt set s (0 + end)) (y : Bool) (mutable : y ≡ isMutable (typeAt b at)) where
+      between : body ≡ andThen (membersOf types w set nest (typeAt b at) d (room t n)) (λ e used. endingOf w set (typeAt b at) end e)
+      unfolding delimitedOf contentsOf
+      between = no-enum ∙ contents-between _ _ _ (sym is ∙ q) ∙ ap (λ (x : List ℕ). contentsOf types x set nest (typeAt b at) end d (room t n)) (sym (cut ∙ ap (cutAt set s) (let z : 0 + end ≡ end = omega arith in z)))
 
-      structure : k ≡ 22 → isStructure (typeAt b at) ≡ true
+      structure : eqb k 22 ≡ isStructure (typeAt b at)
       unfolding isStructure
-      structure e = eq-eqb (typeAt b at .kind) 22 (sym kind ∙ e)
+      structure = ap (λ (x : ℕ). eqb x 22) kind
 
-      union : (k ≡ 22 → ⊥) → isStructure (typeAt b at) ≡ false
-      unfolding isStructure
-      union e = ne-eqb (typeAt b at .kind) 22 (λ f. e (kind ∙ f))
+      pub body-mstruct : (eqb k 22 && y) ≡ true → (u : List ℕ) (r : Out) → Done (andThen (mmembersOf types w set nest (typeAt b at .members) d (room t n)) (λ e used. endingBy w set (set .version) end e)) n t u r → Done body n t u r
+      unfolding membersOf membersIf endingOf endingIf
+      body-mstruct e u r h =
+          let f : isStructure (typeAt b at) ≡ true = sym structure ∙ and-first (eqb k 22) y e in
+          let g : isMutable (typeAt b at) ≡ true = sym mutable ∙ and-second (eqb k 22) y e in
+          is-same (between ∙ rw (mutable-ends set (typeAt b at) f g, f, g)) h
 
-      pub body-mstruct : k ≡ 22 → y ≡ true → (u : List ℕ) (r : Out) → Done (andThen (mmembersOf types s set nest (typeAt b at .members) d (room t n)) (λ e used. endingBy s set (set .version) end e)) n t u r → Done body n t u r
-      unfolding membersIf endingIf
-      body-mstruct e f u r h = is-same (by-sort true true (structure e) f) h
+      -- any other ends by its DHEADER, or where its members end
+      module _ (others : (eqb k 22 && y) ≡ false) (u : List ℕ) (r : Out) (h : Done (membersOf types w set nest (typeAt b at) d (room t n)) n t u r) (z o : Bool) (keeps : z ≡ keepsEnds set) (delimited : o ≡ isDelimited (typeAt b at)) where
+        pub body-there : (z && o) ≡ true → (v : Out) → v ≡ standingAt end r → Done body n t u v
+        unfolding endingOf endingIf hasEnding
+        body-there e v f =
+            let l : keepsEnds set ≡ true = sym keeps ∙ and-first z o e in
+            let m : isDelimited (typeAt b at) ≡ true = sym delimited ∙ and-second z o e in
+            is-same (between ∙ rw (l, m)) (stands-there w set end l h f)
 
-      pub body-fstruct : k ≡ 22 → y ≡ false → (u : List ℕ) (r : Out) → Done (fmembersOf types s set nest (typeAt b at) (typeAt b at .members) d (room t n)) n t u r → Done body n t u r
-      unfolding membersIf endingIf
-      body-fstruct e f u r h = is-same (by-sort true false (structure e) f ∙ then-nil _) h
+        pub body-rest : (z && o) ≡ false → Done body n t u r
+        unfolding endingOf endingIf hasEnding
+        body-rest e = is-same (between ∙ rw (no-ending z o keeps delimited e) (then-nil _)) h
+          where
+            no-ending : (x p : Bool) → x ≡ keepsEnds set → p ≡ isDelimited (typeAt b at) → (x && p) ≡ false → pick (keepsEnds set) (isDelimited (typeAt b at)) (both (isMutable (typeAt b at)) (isStructure (typeAt b at))) ≡ false
+            no-ending true p i j q = rw (← i, ← j) q
+            no-ending false p i j q = rw (← i) (both-swap (isStructure (typeAt b at)) (isMutable (typeAt b at)) (no-mutable-structure b at k y kind mutable others))
 
-      pub body-union : (k ≡ 22 → ⊥) → (u : List ℕ) (r : Out) → Done (membersBy types s set nest y (typeAt b at .members) d (room t n)) n t u r → Done body n t u r
-      unfolding membersIf endingIf
-      body-union e u r h = is-same (by-sort false y (union e) refl ∙ stands y) h
-        where
-          stands : (z : Bool) → andThen (membersIf types s set nest false z (typeAt b at) d (room t n)) (λ e used. endingIf s set (both z false) end e) ≡ membersBy types s set nest z (typeAt b at .members) d (room t n)
-          stands true = then-nil _
-          stands false = then-nil _
+-- the members of a structure that is not Mutable, and those of a union
+module _ (types : List BookType) (s : List ℕ) (set : Settings) (nest : Nest) (b : List ℕ) (at : ℕ) (c : Cursor) (t : List ℕ) (n k : ℕ) (kind : k ≡ typeAt b at .kind) (u : List ℕ) (r : Out) where
+  abbrev members : Outcome
+  members = membersOf types s set nest (typeAt b at) c (room t n)
+
+  pub members-structure : k ≡ 22 → both (isStructure (typeAt b at)) (isMutable (typeAt b at)) ≡ false → Done (fmembersOf types s set nest (typeAt b at) (typeAt b at .members) c (room t n)) n t u r → Done members n t u r
+  unfolding membersOf membersIf isStructure
+  members-structure e f h =
+      let x : eqb (typeAt b at .kind) 22 ≡ true = eq-eqb (typeAt b at .kind) 22 (sym kind ∙ e) in
+      let y : isMutable (typeAt b at) ≡ false = rw x at f in
+      is-same (rw (x, y)) h
+
+  pub members-union : (k ≡ 22 → ⊥) → (y : Bool) → y ≡ isMutable (typeAt b at) → Done (membersBy types s set nest y (typeAt b at .members) c (room t n)) n t u r → Done members n t u r
+  unfolding membersOf membersIf isStructure
+  members-union e y f h = is-same (rw (ne-eqb (typeAt b at .kind) 22 (λ g. e (kind ∙ g)), ← f)) h
 
 -- a row's place is in the table after the rows beneath it too
 pub place-kept : (t u : List ℕ) (n : ℕ) (o : Outcome) (r : Out) (f : Bool) → f ≡ noRoom t n → f ≡ false → Done o (n + 1) t u r → width * n + width ≤ length u
@@ -99,7 +180,7 @@ module _ {b index : List ℕ} {ty p k : ℕ} {o : Bool} (at : PlaceOf b index ty
   types = typesBy b index
 
   abbrev nested : Outcome
-  nested = nestedAt types s set D ty id c (room t n)
+  nested = nestedAt types set D s ty id c (room t n)
 
   kind-no : typeNo types ty .kind ≡ k
   kind-no = sym (kind ∙ ap (λ (x : BookType). x .kind) (at .is))
@@ -107,10 +188,10 @@ module _ {b index : List ℕ} {ty p k : ℕ} {o : Bool} (at : PlaceOf b index ty
   opens-is : opens (typeNo types ty .kind) ≡ o
   opens-is = ap opens kind-no ∙ sym is
 
-  unfit-at : (d : ℕ) → o ≡ false → nestedAt types s set d ty id c (room t n) ≡ refused InvalidType
+  unfit-at : (d : ℕ) → o ≡ false → nestedAt types set d s ty id c (room t n) ≡ refused InvalidType
   unfolding nestedAt tooDeepIf openedIf
   unfit-at zero e = ap tooDeepIf (opens-is ∙ e)
-  unfit-at (suc d) e = ap (λ (x : Bool). openedIf types s set (nestedAt types s set d) x ty id c (room t n)) (opens-is ∙ e)
+  unfit-at (suc d) e = ap (λ (x : Bool). openedIf types s set (nestedAt types set d) x ty id c (room t n)) (opens-is ∙ e)
 
   pub nested-unfit : not o ≡ true → Done nested n t t (Refused InvalidType)
   nested-unfit e = is-refused (unfit-at D (negated o e)) (filled-none t n)
@@ -127,7 +208,7 @@ module _ {b index : List ℕ} {ty p k : ℕ} {o : Bool} (at : PlaceOf b index ty
         go true q = refl
         go false q = sym q
 
-    deep-at : (d : ℕ) → d ≡ 0 → nestedAt types s set d ty id c (room t n) ≡ refused TooDeep
+    deep-at : (d : ℕ) → d ≡ 0 → nestedAt types set d s ty id c (room t n) ≡ refused TooDeep
     unfolding nestedAt tooDeepIf
     deep-at zero e = ap tooDeepIf (opens-is ∙ opened)
     deep-at (suc d) e = absurd (omega arith)
@@ -135,25 +216,25 @@ module _ {b index : List ℕ} {ty p k : ℕ} {o : Bool} (at : PlaceOf b index ty
     pub nested-deep : D ≡ 0 → Done nested n t t (Refused TooDeep)
     nested-deep e = is-refused (deep-at D e) (filled-none t n)
 
-    opened-at : (d : ℕ) → nestedAt types s set (suc d) ty id c (room t n) ≡ roomFor (room t n) (closed (typeNo types ty .kind) id ty (bodyOf types s set (nestedAt types s set d) (typeNo types ty) c (room t n - 1)))
+    opened-at : (d : ℕ) → nestedAt types set (suc d) s ty id c (room t n) ≡ roomFor (room t n) (closed (typeNo types ty .kind) id ty (bodyOf types s set (nestedAt types set d) (typeNo types ty) c (room t n - 1)))
     unfolding nestedAt openedIf
-    opened-at d = ap (λ (x : Bool). openedIf types s set (nestedAt types s set d) x ty id c (room t n)) (opens-is ∙ opened)
+    opened-at d = ap (λ (x : Bool). openedIf types s set (nestedAt types set d) x ty id c (room t n)) (opens-is ∙ opened)
 
-    is-opened : (D ≡ 0 → ⊥) → nested ≡ roomFor (room t n) (closed k id ty (bodyOf types s set (nestedAt types s set (D - 1)) (typeAt b p) c (room t n - 1)))
+    is-opened : (D ≡ 0 → ⊥) → nested ≡ roomFor (room t n) (closed k id ty (bodyOf types s set (nestedAt types set (D - 1)) (typeAt b p) c (room t n - 1)))
     is-opened h =
         let e : D ≡ suc (D - 1) = omega arith in
-        ap (λ (x : ℕ). nestedAt types s set x ty id c (room t n)) e ∙ opened-at (D - 1)
-        ∙ ap (λ (x : ℕ). roomFor (room t n) (closed x id ty (bodyOf types s set (nestedAt types s set (D - 1)) (typeNo types ty) c (room t n - 1)))) kind-no
-        ∙ ap (λ (x : BookType). roomFor (room t n) (closed k id ty (bodyOf types s set (nestedAt types s set (D - 1)) x c (room t n - 1)))) (sym (at .is))
+        ap (λ (x : ℕ). nestedAt types set x s ty id c (room t n)) e ∙ opened-at (D - 1)
+        ∙ ap (λ (x : ℕ). roomFor (room t n) (closed x id ty (bodyOf types s set (nestedAt types set (D - 1)) (typeNo types ty) c (room t n - 1)))) kind-no
+        ∙ ap (λ (x : BookType). roomFor (room t n) (closed k id ty (bodyOf types s set (nestedAt types set (D - 1)) x c (room t n - 1)))) (sym (at .is))
 
     module _ (deep : D ≡ 0 → ⊥) (f : Bool) (full : f ≡ noRoom t n) where
       abbrev beneath : ℕ → Outcome
-      beneath x = bodyOf types s set (nestedAt types s set (D - 1)) (typeAt b p) c x
+      beneath x = bodyOf types s set (nestedAt types set (D - 1)) (typeAt b p) c x
 
       pub nested-full : f ≡ true → Done nested n t t (Refused NoRoom)
       nested-full = row-full k id ty beneath t n f full (is-opened deep)
 
-      module _ (fits : f ≡ false) {d : Cursor} (made : d ≡ c) {u : List ℕ} {r : Out} (given : Done (bodyOf types s set (nestedAt types s set (D - 1)) (typeAt b p) d (room t (n + 1))) (n + 1) t u r) where
+      module _ (fits : f ≡ false) {d : Cursor} (made : d ≡ c) {u : List ℕ} {r : Out} (given : Done (bodyOf types s set (nestedAt types set (D - 1)) (typeAt b p) d (room t (n + 1))) (n + 1) t u r) where
         h : Done (beneath (room t (n + 1))) (n + 1) t u r
         h = rw made at given
 

@@ -13,6 +13,8 @@ use Rattle.ground.specs.Choice.{among, both, _‥_, within}
 use Rattle.ground.proofs.Tests.{both-left, both-right}
 use Rattle.wire.specs.declared.settings.Version.{Version}
 use Rattle.wire.specs.declared.settings.Version.the-variants.{Xcdr1, Xcdr2}
+use Rattle.wire.specs.declared.settings.Mode.{Mode}
+use Rattle.wire.specs.declared.settings.Mode.the-variants.{Crate, Standard}
 use Rattle.ground.proofs.Between.{passes, between}
 use Rattle.wire.specs.declared.cursor.Cursor.{Cursor}
 use Rattle.wire.specs.declared.settings.Settings.{Settings}
@@ -28,7 +30,7 @@ use Rattle.values.specs.Scalar.{scalarOf}
 use Rattle.values.specs.Code.Quick.{isTaken, Quickly}
 use Rattle.values.proofs.Quickly.{quick-not, quick-as, quick-next}
 use Rattle.reader.specs.Value.{Nest, isSequence, primitiveElement, readAs, valueOf}
-use Rattle.reader.specs.Member.{byLength, foundBy, foundOf, fmemberBy, fmemberOf}
+use Rattle.reader.specs.Member.{byLength, foundBy, foundValue, fmemberBy, fmemberOf}
 
 -- what no kind that is taken is
 none-of : (x : Bool) → T (not x) → x ≡ false
@@ -91,10 +93,11 @@ module _ (types : List BookType) (s : List ℕ) (set : Settings) (nest : Nest) (
           rw (a, b, d, g) (ap (λ (x : ℕ). scalarOf s set x id c r) (sym read))
 
   -- and is no sequence
-  taken-other : (v : Version) → byLength v types (typeNo types ty) ≡ false
+  taken-other : (v : Version) (m : Mode) → byLength v m types (typeNo types ty) ≡ false
   unfolding byLength isSequence isTaken
-  taken-other Xcdr1 = refl
-  taken-other Xcdr2 = go (eqb (typeNo types ty .kind) 19) refl
+  taken-other Xcdr1 m = refl
+  taken-other Xcdr2 Standard = refl
+  taken-other Xcdr2 Crate = go (eqb (typeNo types ty .kind) 19) refl
     where
       go : (x : Bool) → eqb (typeNo types ty .kind) 19 ≡ x → both (isSequence (typeNo types ty)) (primitiveElement types (typeNo types ty)) ≡ false
       go true e = let f : eqb (typeNo types ty .kind) 25 ≡ false = ap (λ (x : ℕ). eqb x 25) (eqb→eq (typeNo types ty .kind) 19 (rw e tt)) in rw f
@@ -109,7 +112,7 @@ module _ (b index s : List ℕ) (set : Settings) (p : ℕ) (c : Cursor) (t : Lis
   pub plain-none : (nest : Nest) → Quickly (fmemberOf (typesBy b index) s set nest (memberAt b p) c (room t n)) 1 n (c .origin) t t 0
   plain-none nest = quick-not _ 1 n (c .origin) t
 
-  pub found-none : (nest : Nest) (length : ℕ) → Quickly (foundOf (typesBy b index) s set nest (memberAt b p) length c (room t n)) 1 n (c .origin) t t 0
+  pub found-none : (nest : Nest) (length : ℕ) → Quickly (foundValue (typesBy b index) s set nest (memberAt b p) length c (room t n)) 1 n (c .origin) t t 0
   found-none nest length = quick-not _ 1 n (c .origin) t
 
   module _ (ty k i : ℕ) (type : ty ≡ memberAt b p .type) (read : 0 < k → k ≡ readAs (typeNo (typesBy b index) ty)) (named : i ≡ memberAt b p .id)
@@ -127,17 +130,17 @@ module _ (b index s : List ℕ) (set : Settings) (p : ℕ) (c : Cursor) (t : Lis
         member-is : isTaken k ≡ true → fmemberOf (typesBy b index) s set nest (memberAt b p) c (room t n) ≡ scalarOf s set k i c (room t n)
         member-is y = rw (sym is ∙ never) (value-is y nest)
 
-    pub found-taken : (nest : Nest) (length : ℕ) → Quickly (foundOf (typesBy b index) s set nest (memberAt b p) length c (room t n)) 1 n (c .origin) t u r
-    unfolding foundOf foundBy
+    pub found-taken : (nest : Nest) (length : ℕ) → Quickly (foundValue (typesBy b index) s set nest (memberAt b p) length c (room t n)) 1 n (c .origin) t u r
+    unfolding foundValue foundBy
     found-taken nest length = quick-as _ _ 1 n (c .origin) t u r d (λ h. (found-is (takes h)))
       where
-        found-is : isTaken k ≡ true → foundOf (typesBy b index) s set nest (memberAt b p) length c (room t n) ≡ scalarOf s set k i c (room t n)
-        found-is y = rw (← type, taken-other (typesBy b index) s set nest ty i c (room t n) k y (read-as y) (set .version)) (rw type (value-is y nest))
+        found-is : isTaken k ≡ true → foundValue (typesBy b index) s set nest (memberAt b p) length c (room t n) ≡ scalarOf s set k i c (room t n)
+        found-is y = rw (← type, taken-other (typesBy b index) s set nest ty i c (room t n) k y (read-as y) (set .version) (set .mode)) (rw type (value-is y nest))
 
 -- a row that was written has its place
 pub plain-next : (types : List BookType) (s : List ℕ) (set : Settings) (m : Member) (c : Cursor) (t : List ℕ) (n : ℕ) (u : List ℕ) (r : ℕ)
     → ((nest : Nest) → Quickly (fmemberOf types s set nest m c (room t n)) 1 n (c .origin) t u r) → 0 < r → length t < 2 ^ 64 → Fits w64 (n + 1)
-plain-next types s set m c t n u r q h l = quick-next _ _ _ _ _ r h (q (λ ty id d k. read d [])) l
+plain-next types s set m c t n u r q h l = quick-next _ _ _ _ _ r h (q (λ w ty id d k. read d [])) l
 
 -- the header where the hint says is asked for the member's own id
 pub ahead-of : (b s : List ℕ) (set : Settings) (p : ℕ) (h : Hint) (origin : ℕ) (r : Ahead) (i : ℕ) → i ≡ memberAt b p .id → HeaderAhead s set i h origin r → HeaderAhead s set (memberAt b p .id) h origin r

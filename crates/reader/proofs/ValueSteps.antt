@@ -1,15 +1,15 @@
 -- Laws of a value and of lists of opened values: what each return and each turn shows. Assumes nothing.
 use Prim.Native.Nat.{ℕ, _+_, _-_, _≤_}
 use mathlib.Core.Path.{_≡_, refl, sym, ap, _∙_}
-use mathlib.Core.Bool.{Bool, true, false, not, _||_, or-false}
-use mathlib.Core.List.{List, [], _∷_}
+use mathlib.Core.Bool.{Bool, true, false, not, _||_, _&&_, or-false}
+use mathlib.Core.List.{List, [], _∷_, append-nil}
 use native.Mathlib.Nat.{add-zero}
 use native.Mathlib.Omega.{arith}
 use lib.Dec.{T, eqb, leb, leb→le}
 use borrow.Author.Tests.{ne-eqb}
-use Rattle.ground.proofs.Tests.{both-left, both-right}
+use Rattle.ground.proofs.Tests.{both-left, both-right, and-both}
 use Rattle.ground.proofs.Between.{passes, between}
-use Rattle.ground.specs.Choice.{both, among}
+use Rattle.ground.specs.Choice.{pick, both, among}
 use Rattle.wire.specs.declared.cursor.Cursor.{Cursor}
 use Rattle.wire.specs.declared.cursor.Shortage.{Shortage}
 use Rattle.wire.specs.declared.settings.Settings.{Settings}
@@ -17,10 +17,16 @@ use Rattle.table.specs.declared.out.Out.{Out}
 use Rattle.table.specs.declared.out.Out.the-variants.{Read, Short, Refused}
 use Rattle.table.specs.Rows.{row, room, noRoom}
 use Rattle.table.specs.Code.Rows.{putRow, Filled}
-use Rattle.table.specs.Outcome.{Outcome, roomFor, prepend}
+use Rattle.table.specs.Outcome.{Outcome, read, short, refused, roomFor, prepend, andThen}
 use Rattle.table.specs.Code.Outcome.{Done}
-use Rattle.table.proofs.Filling.{filled-none, filled-one, full-fits, room-used}
-use Rattle.table.proofs.Outcomes.{is-read, is-short, is-refused, is-same, is-after, no-room, some-room}
+use Rattle.table.proofs.Filling.{filled-none, filled-kept, filled-one, full-fits, room-used}
+use Rattle.table.proofs.Outcomes.{is-read, is-short, is-refused, is-same, is-after, WasRead, was-read, was-short, was-refused, then-read, then-short, then-refused, then-nil, no-room, some-room}
+use Rattle.wire.specs.declared.dheader.Contents.{Contents}
+use Rattle.wire.specs.declared.dheader.Contents.the-variants as contents
+use Rattle.wire.specs.Ends.{keepsEnds, cutAt}
+use Rattle.wire.specs.Dheader.{contentsAt}
+use Rattle.wire.specs.Number.{afterNumber}
+use Rattle.wire.proofs.Contents.{contents-short, contents-between, contents-past}
 use Rattle.wire.specs.declared.number.Number.{Number}
 use Rattle.wire.specs.declared.number.Number.the-variants as number
 use Rattle.wire.proofs.Numbers.{after-got, after-none}
@@ -28,13 +34,14 @@ use Rattle.kinds.proofs.Table.{opened-stored, sequence-stored}
 use Rattle.kinds.specs.Kinds.{storedOf, isPrimitive, unsupportedMember, unsupportedElement, opens}
 use Rattle.book.specs.Types.{BookType, typeNo}
 use Rattle.book.specs.Places.{typeAt, typesBy, PlaceOf}
-use Rattle.table.specs.declared.out.Refusal.the-variants.{Unsupported, NoRoom}
+use Rattle.table.specs.declared.out.Refusal.the-variants.{InvalidData, Unsupported, NoRoom}
 use Rattle.values.specs.Scalar.{scalarOf}
 use Rattle.values.specs.List.{primitivesOf, bitmasksOrTextsOf}
-use Rattle.values.specs.Header.{countFrom}
+use Rattle.values.specs.Count.{countAt}
 use Rattle.reader.specs.Code.Run.{runOf}
 use Rattle.reader.proofs.RunSteps.{run-single, run-list}
-use Rattle.reader.specs.Value.{Nest, isSequence, primitiveElement, readAs, openedFrom, openedList, elementsOf, listValue, valueOf}
+use Rattle.reader.specs.Value.{Nest, isSequence, primitiveElement, readAs, openedFrom, openedList, elementsOf, countedOf, hasDheader, listEndIf, listEnd, listValue, valueOf}
+use Rattle.reader.specs.Code.Ending.{endingAt}
 
 -- the kinds that open: none of them is NONE, unsupported or a sequence
 pub opened-kind : (k : ℕ) → opens k ≡ true → (eqb k 0 ≡ false) × (unsupportedMember k ≡ false) × (eqb k 25 ≡ false)
@@ -77,7 +84,7 @@ module _ (b index s : List ℕ) (set : Settings) (nest : Nest) (ty id : ℕ) (c 
       elements-full h z i j = is-refused (opened-list h ∙ no-room t n _ z i j) (filled-none t n)
 
       pub elements-opened : y ≡ true → (z : Bool) → z ≡ noRoom t n → z ≡ false → (i₁ i₂ : ℕ) → i₁ ≡ storedOf 25 → i₂ ≡ storedOf k → (u : List ℕ) → u ≡ putRow t n (row i₁ id i₂ count) → (v : List ℕ) (r : Out)
-          → Done (runOf nest ty 0 count 0 c (room u (n + 1))) (n + 1) u v r → Done elements n t v r
+          → Done (runOf nest s ty 0 count 0 c (room u (n + 1))) (n + 1) u v r → Done elements n t v r
       elements-opened h z i j i₁ i₂ l m u q v r d =
           let w : Filled t u n (row 25 id k count ∷ []) = rw (q, l ∙ sequence-stored, m ∙ opened-stored k (sym g ∙ h)) (filled-one t n (row 25 id k count) (full-fits t n z i j)) in
           is-same (opened-list h ∙ some-room t n _ z i j ∙ ap (λ (m : ℕ). prepend (row 25 id k count ∷ []) (openedFrom (typesBy b index) s set nest ty count 0 c m)) (room-used t u n 1 (w .long))
@@ -102,11 +109,11 @@ module _ (b index s : List ℕ) (set : Settings) (nest : Nest) (ty id : ℕ) (c 
   value-none e = is-read {rs = []} (rw (kind-no, e)) (sym (add-zero n)) (filled-none t n)
 
   -- what opens is none of the others
-  pub value-opens : (y : Bool) → y ≡ opens k → y ≡ true → (u : List ℕ) (r : Out) → Done (runOf nest ty id 1 0 c (room t n)) n t u r → Done valued n t u r
+  pub value-opens : (y : Bool) → y ≡ opens k → y ≡ true → (u : List ℕ) (r : Out) → Done (runOf nest s ty id 1 0 c (room t n)) n t u r → Done valued n t u r
   unfolding valueOf
   value-opens y g h u r d =
       let o = opened-kind k (sym g ∙ h) in
-      is-same (rw (ap (λ (z : ℕ). eqb z 0) kind-no ∙ o .0, ap unsupportedMember kind-no ∙ o .1, tested opens y true g h) (sym (run-single nest ty id c (room t n)))) d
+      is-same (rw (ap (λ (z : ℕ). eqb z 0) kind-no ∙ o .0, ap unsupportedMember kind-no ∙ o .1, tested opens y true g h) (sym (run-single nest s ty id c (room t n)))) d
 
   module _ (some : k ≡ 0 → ⊥) (x : Bool) (e : x ≡ unsupportedMember k) where
     pub value-unsupported : x ≡ true → Done valued n t t (Refused Unsupported)
@@ -117,9 +124,9 @@ module _ (b index s : List ℕ) (set : Settings) (nest : Nest) (ty id : ℕ) (c 
       here : eqb (typeNo (typesBy b index) ty .kind) 0 ≡ false
       here = ap (λ (z : ℕ). eqb z 0) kind-no ∙ ne-eqb k 0 some
 
-      pub value-nested : y ≡ true → (u : List ℕ) (r : Out) → Done (runOf nest ty id 1 0 c (room t n)) n t u r → Done valued n t u r
+      pub value-nested : y ≡ true → (u : List ℕ) (r : Out) → Done (runOf nest s ty id 1 0 c (room t n)) n t u r → Done valued n t u r
       unfolding valueOf
-      value-nested h u r d = is-same (rw (kind-no, ne-eqb k 0 some, ← e, f, ← g, h) (sym (run-single nest ty id c (room t n)))) d
+      value-nested h u r d = is-same (rw (kind-no, ne-eqb k 0 some, ← e, f, ← g, h) (sym (run-single nest s ty id c (room t n)))) d
 
       list-among : (eqb k 25 || eqb k 26) ≡ among (25 ∷ 26 ∷ []) k
       list-among = simp or-false
@@ -134,17 +141,58 @@ module _ (b index s : List ℕ) (set : Settings) (nest : Nest) (ty id : ℕ) (c 
       value-scalar h i a j u r d =
           is-same (rw (here, tested unsupportedMember x false e f, tested opens y false g h, tested (among (25 ∷ 26 ∷ [])) _ false list-among i) (ap (λ (m : ℕ). scalarOf s set m id c (room t n)) (ap readAs (sym (at .is)) ∙ sym j))) d
 
--- a list: its count, then its elements
-module _ (b index s : List ℕ) (set : Settings) (nest : Nest) (at id : ℕ) (c : Cursor) (t : List ℕ) (n : ℕ) (p q : Bool) (m : ℕ)
-    (primitive : p ≡ primitiveElement (typesBy b index) (typeAt b at)) (sequence : q ≡ isSequence (typeAt b at)) (bound : m ≡ typeAt b at .bound) (g : Number) (is : g ≡ countFrom s set p q m c) where
-  counted : countFrom s set (primitiveElement (typesBy b index) (typeAt b at)) (isSequence (typeAt b at)) (typeAt b at .bound) c ≡ g
-  counted = rw (← primitive, ← sequence, ← bound) (sym is)
+-- what a DHEADER's end makes of a list
+ends-there : (end : ℕ) {o : Outcome} {n : ℕ} {t u : List ℕ} {r v : Out} → Done o n t u r → v ≡ endingAt end r → Done (andThen o (λ e used. pick (eqb (e .pos) end) (read e []) (refused InvalidData))) n t u v
+unfolding andThen prepend endingAt
+ends-there end {o} {n} {t} {u} {r} {v} h f = go r refl
+  where
+    by : (c : Cursor) (m : ℕ) → r ≡ Read c m → WasRead o n t u c m → (y : Bool) → eqb (c .pos) end ≡ y → Done (andThen o (λ e used. pick (eqb (e .pos) end) (read e []) (refused InvalidData))) n t u v
+    by c m q w true e = rw (f ∙ ap (endingAt end) q, e) (is-read (then-read _ (w .is) ∙ rw e (ap (read c) (append-nil (w .new)))) (w .count) (w .filled))
+    by c m q w false e = rw (f ∙ ap (endingAt end) q, e) (is-refused (then-read _ (w .is) ∙ rw e) (filled-kept (w .filled)))
 
-  pub list-short : (x : Shortage) → g ≡ number.Short x → Done (listValue (typesBy b index) s set nest (typeAt b at) id c (room t n)) n t t (Short x)
-  unfolding listValue
-  list-short x e = is-short (after-none _ _ (counted ∙ e)) (filled-none t n)
+    go : (x : Out) → r ≡ x → Done (andThen o (λ e used. pick (eqb (e .pos) end) (read e []) (refused InvalidData))) n t u v
+    go (Read c m) q = by c m q (was-read h q) (eqb (c .pos) end) refl
+    go (Short x) q = let w = was-short h q in rw (f ∙ ap (endingAt end) q) (is-short (then-short _ (w .is)) (w .filled))
+    go (Refused k) q = let w = was-refused h q in rw (f ∙ ap (endingAt end) q) (is-refused (then-refused _ (w .is)) (w .filled))
 
-  pub list-got : (count : ℕ) (d : Cursor) → g ≡ number.Got count d → (ty : ℕ) → ty ≡ typeAt b at .element → (u : List ℕ) (r : Out)
-      → Done (elementsOf (typesBy b index) s set nest ty id count d (room t n)) n t u r → Done (listValue (typesBy b index) s set nest (typeAt b at) id c (room t n)) n t u r
+-- a list: what begins it, its elements, what ends it
+module _ (b index s : List ℕ) (set : Settings) (nest : Nest) (at id : ℕ) (c : Cursor) (t : List ℕ) (n : ℕ) (p : Bool) (primitive : p ≡ primitiveElement (typesBy b index) (typeAt b at)) (g : Contents) (is : g ≡ contentsAt s set (not p) c) where
+  abbrev list : Outcome
+  list = listValue (typesBy b index) s set nest (typeAt b at) id c (room t n)
+
+  begins : contentsAt s set (hasDheader (typesBy b index) (typeAt b at)) c ≡ g
+  unfolding hasDheader
+  begins = rw (← primitive) (sym is)
+
+  pub list-short : (x : Shortage) → g ≡ contents.Short x → Done list n t t (Short x)
   unfolding listValue
-  list-got count d e ty f u r h = is-same (after-got _ _ (counted ∙ e) ∙ ap (λ (x : ℕ). elementsOf (typesBy b index) s set nest x id count d (room t n)) (sym f)) h
+  list-short x e = is-short (contents-short _ _ _ (begins ∙ e)) (filled-none t n)
+
+  pub list-past : g ≡ contents.Past → Done list n t t (Refused InvalidData)
+  unfolding listValue
+  list-past e = is-refused (contents-past _ _ _ (begins ∙ e)) (filled-none t n)
+
+  module _ (d : Cursor) (end : ℕ) (e : g ≡ contents.Between d end) (w : List ℕ) (cut : w ≡ cutAt set s (0 + end)) (q : Bool) (m : ℕ) (sequence : q ≡ isSequence (typeAt b at)) (bound : m ≡ typeAt b at .bound)
+      (k : Number) (counts : k ≡ countAt w set q m d) where
+    begun : list ≡ andThen (afterNumber short k (λ count f. elementsOf (typesBy b index) w set nest (typeAt b at .element) id count f (room t n))) (λ f used. listEnd (typesBy b index) set (typeAt b at) end f)
+    unfolding listValue countedOf
+    begun = contents-between _ _ _ (begins ∙ e) ∙ rw (← (cut ∙ ap (cutAt set s) (let y : 0 + end ≡ end = omega arith in y)), ← sequence, ← bound, ← counts)
+
+    pub list-uncounted : (x : Shortage) → k ≡ number.Short x → Done list n t t (Short x)
+    list-uncounted x f = is-short (begun ∙ then-short _ (after-none _ _ f)) (filled-none t n)
+
+    module _ (count : ℕ) (first : Cursor) (got : k ≡ number.Got count first) (ty : ℕ) (element : ty ≡ typeAt b at .element) (u : List ℕ) (r : Out)
+        (h : Done (elementsOf (typesBy b index) w set nest ty id count first (room t n)) n t u r) (z : Bool) (keeps : z ≡ keepsEnds set) where
+      ended : (y : Bool) → (z && not p) ≡ y → list ≡ andThen (elementsOf (typesBy b index) w set nest ty id count first (room t n)) (λ f used. listEndIf y end f)
+      unfolding listEnd hasDheader
+      ended y f =
+          begun ∙ ap (λ (o : Outcome). andThen o (λ f used. listEnd (typesBy b index) set (typeAt b at) end f)) (after-got _ _ got ∙ ap (λ (x : ℕ). elementsOf (typesBy b index) w set nest x id count first (room t n)) (sym element))
+          ∙ rw (← primitive, ← keeps, sym (and-both z (not p)) ∙ f)
+
+      pub list-there : (z && not p) ≡ true → (v : Out) → v ≡ endingAt end r → Done list n t u v
+      unfolding listEndIf
+      list-there f v i = is-same (ended true f) (ends-there end h i)
+
+      pub list-rest : (z && not p) ≡ false → Done list n t u r
+      unfolding listEndIf
+      list-rest f = is-same (ended false f ∙ then-nil _) h

@@ -1,5 +1,5 @@
 -- A member, plain, optional or looked up. Who asks for it makes no difference.
-use Prim.Native.Nat.{ℕ, _/_}
+use Prim.Native.Nat.{ℕ, _+_, _/_}
 use mathlib.Core.List.{List, []}
 use mathlib.Core.Bool.{Bool, true, false}
 use Rattle.ground.specs.Choice.{both}
@@ -7,6 +7,9 @@ use Rattle.wire.specs.declared.cursor.Cursor.{Cursor}
 use Rattle.wire.specs.declared.settings.Settings.{Settings}
 use Rattle.wire.specs.declared.settings.Version.{Version}
 use Rattle.wire.specs.declared.settings.Version.the-variants.{Xcdr1, Xcdr2}
+use Rattle.wire.specs.declared.settings.Mode.{Mode}
+use Rattle.wire.specs.declared.settings.Mode.the-variants.{Crate, Standard}
+use Rattle.wire.specs.Ends.{cutAt}
 use Rattle.wire.specs.declared.number.Boolean.{Boolean}
 use Rattle.wire.specs.declared.number.Boolean.the-variants as boolean
 use Rattle.wire.specs.Number.{readBoolean}
@@ -19,10 +22,11 @@ use Rattle.table.specs.declared.out.Refusal.the-variants.{InvalidData}
 use Rattle.table.specs.Outcome.{Outcome, read, short, refused, backTo}
 use Rattle.reader.specs.Value.{Nest, isSequence, primitiveElement, elementsOf, valueOf}
 
--- "A sequence of primitives takes length / size elements", in XCDR2 alone
-unfoldable pub byLength : Version → List BookType → BookType → Bool
-byLength Xcdr1 types t = false
-byLength Xcdr2 types t = both (isSequence t) (primitiveElement types t)
+-- "A sequence of primitives takes length / size elements", in XCDR2 alone and in the crate's mode alone: order 1, "a list or text reads its own length"
+unfoldable pub byLength : Version → Mode → List BookType → BookType → Bool
+byLength Xcdr1 mode types t = false
+byLength Xcdr2 Crate types t = both (isSequence t) (primitiveElement types t)
+byLength Xcdr2 Standard types t = false
 
 -- "length / size elements"
 unfoldable pub elementCount : List BookType → BookType → ℕ → ℕ
@@ -35,8 +39,15 @@ module _ (types : List BookType) (s : List ℕ) (set : Settings) (nest : Nest) w
       elementsOf types s set nest (typeNo types (m .type) .element) (m .id) (elementCount types (typeNo types (m .type)) length) c room
   foundBy false m length c room = valueOf types s set nest (m .type) (m .id) c room
 
+  -- .. by version, mode and type
+  unfoldable pub foundValue : Member → ℕ → Cursor → ℕ → Outcome
+  foundValue m length c room = foundBy (byLength (set .version) (set .mode) types (typeNo types (m .type))) m length c room
+
+module _ (types : List BookType) (s : List ℕ) (set : Settings) (nest : Nest) where
+  -- a found member. "DDS-XTypes 1.3 clause 7.4.3 decides what this paragraph leaves open.": by 7.4.3.4.2 its header tells the member's length, so where ends
+  -- are kept its value is read from the data up to there
   unfoldable pub foundOf : Member → ℕ → Cursor → ℕ → Outcome
-  foundOf m length c room = foundBy (byLength (set .version) types (typeNo types (m .type))) m length c room
+  foundOf m length c room = foundValue types (cutAt set s (c .pos + length)) set nest m length c room
 
   -- "A failed lookup stores nothing; position and origin always come back."
   unfoldable pub onLocated : Member → ℕ → Located → Outcome

@@ -4,7 +4,11 @@ ghost use Rattle.book.specs.Places.{typeAt, typesBy};
 ghost use Rattle.table.specs.Rows.{room};
 ghost use Rattle.table.specs.Code.Outcome.{Done};
 ghost use Rattle.reader.specs.Nested.{reading};
-ghost use Rattle.reader.specs.Code.Cycle.{runIn, bodyIn};
+ghost use Rattle.reader.specs.Code.Cycle.{runIn, membersIn, bodyIn};
+ghost use Rattle.reader.specs.Nested.{isStructure, isMutable};
+ghost use Rattle.ground.specs.Choice.{both};
+ghost use mathlib.Core.Path.{_≡_};
+ghost use mathlib.Core.Bool.{false};
 
 pub mod member;
 pub mod plain;
@@ -14,8 +18,11 @@ pub mod union;
 pub mod value;
 
 use book::index::place;
+use book::member::member_count;
 use kinds::names::ENUM;
 use kinds::names::STRUCTURE;
+use lookup::ahead::Start;
+use lookup::ahead::start_at;
 use table::out::Out;
 use table::out::Refusal;
 use table::rows::Row;
@@ -24,6 +31,7 @@ use table::rows::put_row;
 use values::scalar::enum_type;
 use wire::cursor::Cursor;
 use wire::dheader::Contents;
+use wire::dheader::cut;
 use wire::settings::Settings;
 
 // How many values may be opened one in the other; the root is the first.
@@ -141,17 +149,46 @@ pub fn body(
     if kind == ENUM {
         return enum_type(s, set, t, types::base_at(book, at), c, n);
     }
-    let mutable = types::is_mutable(book, at);
     match types::beginning(book, s, set, at, c) {
         Contents::Short(x) => Out::Short(x),
+        Contents::Past => Out::Refused(Refusal::InvalidData),
         Contents::Between(d, end) => {
-            if kind == STRUCTURE {
-                if mutable {
-                    return structure::mstruct(book, index, s, set, t, at, end, d, n, depth);
-                }
-                return structure::fstruct(book, index, s, set, t, at, d, n, depth);
+            let part = cut(s, set, 0, end as u64);
+            if (kind == STRUCTURE) & types::is_mutable(book, at) {
+                return match start_at(part, set, 0 < member_count(book, at), d) {
+                    Start::Short(x) => Out::Short(x),
+                    Start::From(back, h) => {
+                        structure::mmembers(book, index, part, set, t, at, end, back, h, n, depth)
+                    }
+                };
             }
-            union::union_type(book, index, s, set, t, at, mutable, d, n, depth)
+            let out = inner(book, index, part, set, t, at, d, n, depth);
+            if set.keeps_ends() & types::is_delimited(book, at) {
+                return types::stand_at(end, out);
+            }
+            out
         }
     }
+}
+
+// The members of a structure that is not Mutable, or of a union.
+pub fn inner(
+    book: &[u8],
+    index: &[u32],
+    s: &[u8],
+    set: Settings,
+    t: &mut [u64],
+    at: usize,
+    c: Cursor,
+    n: usize,
+    depth: usize,
+) -> Out
+    requires { ⌜ both (isStructure (typeAt (now book) at)) (isMutable (typeAt (now book) at)) ≡ false ⌝ }
+    ensures { λ r. ⌜ Done (membersIn (now (book .entry)) (now (index .entry)) (now (s .entry)) set depth (typeAt (now (book .entry)) at) c (room (now (t .entry)) n)) n (now (t .entry)) (now (t .exit)) r ⌝ }
+{
+    if types::kind_at(book, at) == STRUCTURE {
+        return structure::fstruct(book, index, s, set, t, at, c, n, depth);
+    }
+    let mutable = types::is_mutable(book, at);
+    union::union_type(book, index, s, set, t, at, mutable, c, n, depth)
 }

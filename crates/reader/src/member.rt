@@ -19,6 +19,7 @@ use lookup::member::locate;
 use table::out::Out;
 use table::out::Refusal;
 use wire::cursor::Cursor;
+use wire::dheader::cut;
 use wire::number::Boolean;
 use wire::settings::Settings;
 use wire::settings::Version;
@@ -109,26 +110,18 @@ pub fn mmember(
     match locate(s, set, id(book, p), c) {
         Located::Short(x) => Out::Short(x),
         Located::Absent(back) => Out::Read(back, n),
-        Located::Found(length, d, back) => match found(
-            book,
-            index,
-            s,
-            set,
-            t,
-            p,
-            length,
-            d,
-            n,
-            depth,
-        ) {
-            Out::Read(_, m) => Out::Read(back, m),
-            Out::Short(x) => Out::Short(x.back_to(back)),
-            Out::Refused(k) => Out::Refused(k),
-        },
+        Located::Found(length, d, back) => {
+            let own = cut(s, set, d.pos, length);
+            match found(book, index, own, set, t, p, length, d, n, depth) {
+                Out::Read(_, m) => Out::Read(back, m),
+                Out::Short(x) => Out::Short(x.back_to(back)),
+                Out::Refused(k) => Out::Refused(k),
+            }
+        }
     }
 }
 
-// The value of a member that was found. XCDR2 takes a sequence of primitives by the length that was found.
+// The value of a member that was found, from its own data. The crate's XCDR2 takes a sequence of primitives by the length that was found.
 pub fn found(
     book: &[u8],
     index: &[u32],
@@ -143,10 +136,13 @@ pub fn found(
 ) -> Out
     ensures { λ r. ⌜ Done (foundIn (now (book .entry)) (now (index .entry)) (now (s .entry)) set depth (memberAt (now (book .entry)) p) length c (room (now (t .entry)) n)) n (now (t .entry)) (now (t .exit)) r ⌝ }
 {
-    let version = set.version;
     let ty = type_index(book, p);
+    let i = id(book, p) as u64;
     let q = place(book, index, ty);
-    if by_length(book, index, version, q) {
+    if kinds::opens(kind_at(book, q)) {
+        return as_nested(book, index, s, set, t, ty, i, 1, c, n, depth);
+    }
+    if by_length(book, index, set, q) {
         let count = element_count(book, index, q, length);
         return elements(
             book,
@@ -155,13 +151,12 @@ pub fn found(
             set,
             t,
             element(book, q),
-            id(book, p) as u64,
+            i,
             count,
             c,
             n,
             depth,
         );
     }
-    let i = id(book, p) as u64;
     value(book, index, s, set, t, ty, i, c, n, depth)
 }

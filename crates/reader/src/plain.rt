@@ -4,7 +4,7 @@ ghost use Rattle.book.specs.Places.{memberAt, typesBy};
 ghost use Rattle.table.specs.Rows.{room};
 ghost use Rattle.values.specs.Code.Quick.{Quickly};
 ghost use Rattle.reader.specs.Value.{Nest, readAs};
-ghost use Rattle.reader.specs.Member.{fmemberOf, foundOf};
+ghost use Rattle.reader.specs.Member.{fmemberOf, foundValue};
 ghost use Prim.Native.Nat.{ℕ, _<_};
 ghost use mathlib.Core.Path.{_≡_};
 ghost use Rattle.lookup.specs.Code.Ahead.{HeadOrEnd, HeaderAhead};
@@ -58,7 +58,7 @@ pub fn take(
     values::quick::value_at(s, set, t, kind, m.id as u64, c, n)
 }
 
-// The same for a member that was found, whose id is known.
+// The same for a member that was found, whose id is known, from its own data.
 pub fn take_found(
     book: &[u8],
     index: &[u32],
@@ -71,7 +71,7 @@ pub fn take_found(
     n: usize,
 ) -> usize
     requires { ⌜ i ≡ memberAt (now book) p .id ⌝ }
-    ensures { λ r. ⌜ ((nest : Nest) (length : ℕ) → Quickly (foundOf (typesBy (now (book .entry)) (now (index .entry))) (now (s .entry)) set nest (memberAt (now (book .entry)) p) length c (room (now (t .entry)) n)) 1 n (c .origin) (now (t .entry)) (now (t .exit)) r) ⌝ }
+    ensures { λ r. ⌜ ((nest : Nest) (length : ℕ) → Quickly (foundValue (typesBy (now (book .entry)) (now (index .entry))) (now (s .entry)) set nest (memberAt (now (book .entry)) p) length c (room (now (t .entry)) n)) 1 n (c .origin) (now (t .entry)) (now (t .exit)) r) ⌝ }
 {
     if !is_there(book, p, book::member::LAST) {
         return 0;

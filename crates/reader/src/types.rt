@@ -1,10 +1,11 @@
-// What the cycle asks of a type or a member in the book, and where a value's contents begin and a Mutable structure ends.
+// What the cycle asks of a type or a member in the book, where a value's contents begin, and where structures, unions and lists end.
 ghost use mathlib.Core.Path.{_≡_};
 ghost use Rattle.book.specs.Places.{memberAt, typeAt, typesBy};
 ghost use Rattle.reader.specs.Value.{isSequence, primitiveElement, readAs};
 ghost use Rattle.reader.specs.Member.{byLength, elementCount};
 ghost use Rattle.reader.specs.Structure.{absorbs};
-ghost use Rattle.reader.specs.Nested.{isMutable, beginningOf, endingBy};
+ghost use Rattle.reader.specs.Nested.{isMutable, isDelimited, mayFailUnheard, beginningOf, endingBy};
+ghost use Rattle.reader.specs.Code.Ending.{standingAt, endingAt};
 ghost use Rattle.table.specs.Code.Outcome.{Done};
 ghost use mathlib.Core.List.{List};
 ghost use Prim.Native.Nat.{ℕ, _+_, _<_};
@@ -23,10 +24,12 @@ use kinds::names::STRUCTURE;
 use lookup::ahead::Hint;
 use lookup::ahead::sentinel_from;
 use table::out::Out;
+use table::out::Refusal;
 use wire::cursor::Cursor;
 use wire::cursor::Place;
 use wire::dheader::Contents;
 use wire::dheader::contents_at;
+use wire::settings::Mode;
 use wire::settings::Settings;
 use wire::settings::Version;
 
@@ -87,12 +90,17 @@ pub fn primitive_element(book: &[u8], index: &[u32], at: usize) -> bool
 }
 
 // Whether a member of this type, once found, is taken by the length of its header.
-pub fn by_length(book: &[u8], index: &[u32], version: Version, at: usize) -> bool
-    ensures { λ r. ⌜ r ≡ byLength version (typesBy (now (book .entry)) (now (index .entry))) (typeAt (now (book .entry)) at) ⌝ }
+pub fn by_length(book: &[u8], index: &[u32], set: Settings, at: usize) -> bool
+    ensures { λ r. ⌜ r ≡ byLength (set .version) (set .mode) (typesBy (now (book .entry)) (now (index .entry))) (typeAt (now (book .entry)) at) ⌝ }
 {
+    let version = set.version;
+    let mode = set.mode;
     match version {
         Version::Xcdr1 => false,
-        Version::Xcdr2 => is_sequence(book, at) & primitive_element(book, index, at),
+        Version::Xcdr2 => match mode {
+            Mode::Crate => is_sequence(book, at) & primitive_element(book, index, at),
+            Mode::Standard => false,
+        },
     }
 }
 
@@ -112,16 +120,30 @@ pub fn absorbs(book: &[u8], at: usize, p: usize) -> bool
     (extensibility(book, at) == 1) | (book::member::construct(book, p) == 0)
 }
 
-// Serialization rules 29 and 30: what begins a structure or a union, and where its members stand. Of a Mutable union a DHEADER that is
-// short is not heard: its members stand where it ran short.
+pub fn is_delimited(book: &[u8], at: usize) -> bool
+    ensures { λ r. ⌜ r ≡ isDelimited (typeAt (now (book .entry)) at) ⌝ }
+{
+    let extensibility = extensibility(book, at);
+    (extensibility == 1) | (extensibility == 2)
+}
+
+// Whether a DHEADER that is short is not heard: a Mutable union's, where ends are not kept.
+fn may_fail_unheard(book: &[u8], set: Settings, at: usize) -> bool
+    ensures { λ r. ⌜ r ≡ mayFailUnheard set (typeAt (now (book .entry)) at) ⌝ }
+{
+    !set.keeps_ends() & is_mutable(book, at) & (kind_at(book, at) != STRUCTURE)
+}
+
+// Serialization rules 29 and 30: what begins a structure or a union, and where its members stand. Where a short DHEADER is not heard, they
+// stand where it ran short.
 pub fn beginning(book: &[u8], s: &[u8], set: Settings, at: usize, c: Cursor) -> Contents
     ensures { λ r. ⌜ r ≡ beginningOf (now (s .entry)) set (typeAt (now (book .entry)) at) c ⌝ }
 {
-    let extensibility = extensibility(book, at);
-    match contents_at(s, set, (extensibility == 1) | (extensibility == 2), c) {
+    match contents_at(s, set, is_delimited(book, at), c) {
         Contents::Between(d, end) => Contents::Between(d, end),
+        Contents::Past => Contents::Past,
         Contents::Short(x) => {
-            if (extensibility == 2) & (kind_at(book, at) != STRUCTURE) {
+            if may_fail_unheard(book, set, at) {
                 let reached = x.at;
                 return Contents::Between(reached, s.len());
             }
@@ -143,5 +165,32 @@ pub fn ending(s: &[u8], set: Settings, end: usize, c: Cursor, h: Hint, n: usize)
             Place::Short(x) => Out::Short(x),
         },
         Version::Xcdr2 => Out::Read(Cursor::new(end, c.origin), n),
+    }
+}
+
+// What ends a value that its DHEADER ends: it stands there, wherever its members were.
+pub fn stand_at(end: usize, out: Out) -> Out
+    ensures { λ r. ⌜ r ≡ standingAt end out ⌝ }
+{
+    match out {
+        Out::Read(c, n) => Out::Read(Cursor::new(end, c.origin), n),
+        Out::Short(x) => Out::Short(x),
+        Out::Refused(k) => Out::Refused(k),
+    }
+}
+
+// What ends a list that its DHEADER ends: its elements end exactly there.
+pub fn end_at(end: usize, out: Out) -> Out
+    ensures { λ r. ⌜ r ≡ endingAt end out ⌝ }
+{
+    match out {
+        Out::Read(c, n) => {
+            if c.pos == end {
+                return Out::Read(c, n);
+            }
+            Out::Refused(Refusal::InvalidData)
+        }
+        Out::Short(x) => Out::Short(x),
+        Out::Refused(k) => Out::Refused(k),
     }
 }

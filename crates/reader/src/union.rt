@@ -39,7 +39,7 @@ pub fn union_type(
     if ms.left == 0 {
         return Out::Refused(Refusal::InvalidType);
     }
-    match discriminator(book, index, s, set, t, p, mutable, c, n, depth) {
+    match first(book, index, s, set, t, p, mutable, c, n, depth) {
         Out::Read(d, m) => {
             let v = discriminator_at(t, n, m);
             chosen(book, index, s, set, t, at, p, mutable, v, d, m, depth)
@@ -49,8 +49,8 @@ pub fn union_type(
     }
 }
 
-// The discriminator at p: a Mutable union's is looked up, any other's read as not optional.
-pub fn discriminator(
+// The first member, at p, which is the discriminator: a Mutable union's is looked up, any other's read as not optional.
+pub fn first(
     book: &[u8],
     index: &[u32],
     s: &[u8],

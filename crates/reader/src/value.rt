@@ -4,6 +4,7 @@ ghost use Rattle.table.specs.Rows.{room};
 ghost use Rattle.table.specs.Code.Outcome.{Done};
 ghost use Rattle.reader.specs.Code.Cycle.{elementsIn, listIn, valueIn};
 use crate::as_nested;
+use crate::types::end_at;
 use crate::types::is_sequence;
 use crate::types::kind_at;
 use crate::types::primitive_element;
@@ -20,11 +21,14 @@ use table::out::Refusal;
 use table::rows::Row;
 use table::rows::is_full;
 use table::rows::put_row;
-use values::header::count_from;
+use values::count::count_at;
 use values::list::bitmasks_or_texts;
 use values::list::primitives;
 use values::scalar::scalar;
 use wire::cursor::Cursor;
+use wire::dheader::Contents;
+use wire::dheader::contents_at;
+use wire::dheader::cut;
 use wire::number::Number;
 use wire::settings::Settings;
 
@@ -76,22 +80,23 @@ pub fn listed(
     ensures { λ r. ⌜ Done (listIn (now (book .entry)) (now (index .entry)) (now (s .entry)) set depth (typeAt (now (book .entry)) at) id c (room (now (t .entry)) n)) n (now (t .entry)) (now (t .exit)) r ⌝ }
 {
     let primitive = primitive_element(book, index, at);
-    let sequence = is_sequence(book, at);
-    match count_from(s, set, primitive, sequence, bound(book, at) as u64, c) {
-        Number::Short(x) => Out::Short(x),
-        Number::Got(count, first) => elements(
-            book,
-            index,
-            s,
-            set,
-            t,
-            element(book, at),
-            id,
-            count,
-            first,
-            n,
-            depth,
-        ),
+    match contents_at(s, set, !primitive, c) {
+        Contents::Short(x) => Out::Short(x),
+        Contents::Past => Out::Refused(Refusal::InvalidData),
+        Contents::Between(d, end) => {
+            let part = cut(s, set, 0, end as u64);
+            match count_at(part, set, is_sequence(book, at), bound(book, at) as u64, d) {
+                Number::Short(x) => Out::Short(x),
+                Number::Got(count, first) => {
+                    let ty = element(book, at);
+                    let out = elements(book, index, part, set, t, ty, id, count, first, n, depth);
+                    if set.keeps_ends() & !primitive {
+                        return end_at(end, out);
+                    }
+                    out
+                }
+            }
+        }
     }
 }
 

@@ -1,16 +1,19 @@
 // Reads a list from standard input and prints the answer and the rows of each entry. It reads an entry at a time: an array for the whole list
-// is longer than the checker follows. An entry is the number of rows of the table, u16, and a case as `rows` takes it: the book, the root, the
-// message's length, the message. A message that `rows` would not take is read here too, and answered.
-// The stored list begins with the 102 messages of Cyclone DDS and Fast-CDR whose rows are known from the samples that they wrote. The entries
-// after them, and what is said of them, `compare/sample` wrote (no words after it) from the crate dust_dds and document 01's rules; the port
-// took no part in it.
+// is longer than the checker follows. An entry is the mode, a byte (0 the crate's, 1 the standard's), the number of rows of the table, u16, and a
+// case as `rows` takes it: the book, the root, the message's length, the message. A message that `rows` would not take is read here too, and
+// answered.
+// The stored list begins with 200 messages of Cyclone DDS and Fast-CDR, whose rows are known from the samples that they wrote: 102 entries in
+// the crate's mode, and all 200 in the standard's. The entries after them, and what is said of them, `compare/sample` wrote (no words after it)
+// from the crate dust_dds and from the rules in plain Rust; the port took no part in it.
+use book::bytes::byte_at;
 use book::bytes::pair_at;
 use book::bytes::quad_at;
 use libc::STDOUT_FILENO;
 use table::rows::WIDTH;
+use wire::settings::Mode;
 
-// The longest entry: a book of 65,536 bytes and a message of one more, and eight bytes.
-const LONGEST: usize = 131081;
+// The longest entry: a book of 65,536 bytes and a message of one more, and nine bytes.
+const LONGEST: usize = 131082;
 
 // 2,048 rows: the largest table of an entry.
 const WORDS: usize = 8192;
@@ -22,30 +25,45 @@ fn filled(part: &mut [u8]) -> bool {
     io::read_full(0, part) == part.len()
 }
 
-fn say(book: &[u8], root: usize, message: &[u8], table: &mut [u64]) {
-    let a = sinotayam::read(book, root, message, table);
+fn mode_of(standard: u8) -> Mode {
+    match standard {
+        0 => Mode::Crate,
+        _ => Mode::Standard,
+    }
+}
+
+fn say(book: &[u8], root: usize, message: &[u8], standard: u8, table: &mut [u64]) {
+    let a = sinotayam::read(book, root, message, mode_of(standard), table);
     cases::lines::answer(a, table);
 }
 
 // Reads the message with the first `rows` rows of the table; false where it has fewer.
-fn read(book: &[u8], root: usize, message: &[u8], table: &mut [u64], rows: usize) -> bool {
+fn read(
+    book: &[u8],
+    root: usize,
+    message: &[u8],
+    standard: u8,
+    table: &mut [u64],
+    rows: usize,
+) -> bool {
     if table.len() / WIDTH < rows {
         return false;
     }
     let words = rows * WIDTH;
-    say(book, root, message, &mut table[0..words]);
+    say(book, root, message, standard, &mut table[0..words]);
     true
 }
 
-// Reads the rest of the entry whose first six bytes stand in buf, and its message; false where it is no whole entry.
+// Reads the rest of the entry whose first seven bytes stand in buf, and its message; false where it is no whole entry.
 fn entry(buf: &mut [u8], table: &mut [u64]) -> bool {
-    let rows = pair_at(buf, 0, 0);
-    let book = quad_at(buf, 2, 0) as usize + 2;
+    let standard = byte_at(buf, 0, 0) as u8;
+    let rows = pair_at(buf, 1, 0);
+    let book = quad_at(buf, 3, 0) as usize + 3;
     let start = book + 6;
     if buf.len() < start {
         return false;
     }
-    if !filled(&mut buf[6..start]) {
+    if !filled(&mut buf[7..start]) {
         return false;
     }
     let root = pair_at(buf, book, 0);
@@ -56,15 +74,15 @@ fn entry(buf: &mut [u8], table: &mut [u64]) -> bool {
     if !filled(&mut buf[start..end]) {
         return false;
     }
-    read(&buf[2..book], root, &buf[start..end], table, rows)
+    read(&buf[3..book], root, &buf[start..end], standard, table, rows)
 }
 
 // Reads one entry, if there is one more; false where the list is at its end, or has no whole entry there.
 fn next(buf: &mut [u8], table: &mut [u64]) -> bool {
-    if buf.len() < 6 {
+    if buf.len() < 7 {
         return false;
     }
-    if io::read_full(0, &mut buf[0..6]) == 0 {
+    if io::read_full(0, &mut buf[0..7]) == 0 {
         return false;
     }
     if entry(buf, table) {

@@ -8,6 +8,7 @@ use lib.Dec.{leb, ltb}
 use lib.ListN.{length, getD, drop, length-drop}
 use lib.Seq.{getD-drop}
 use borrow.Author.Tests.{ltb-true, lt-leb}
+use Rattle.wire.specs.declared.settings.Mode.{Mode}
 use Rattle.wire.specs.declared.settings.Representation.{Representation}
 use Rattle.wire.specs.declared.settings.Representation.the-variants.{Known, Unknown}
 use Rattle.wire.specs.Identifier.{settingsOf}
@@ -61,10 +62,10 @@ module _ (book s : List ℕ) (root : ℕ) where
 data-bytes : (message : List ℕ) → AreBytes message → AreBytes (drop 4 message)
 data-bytes message bytes i = rw (getD-drop) (bytes (4 + i))
 
--- FOR EVERY BOOK AND ROOT THAT THE CHECK PASSES, and every room
-module _ (book : List ℕ) (root room : ℕ) (passes : checkOf book root ≡ 0) where
+-- FOR EVERY BOOK AND ROOT THAT THE CHECK PASSES, every room and both modes
+module _ (book : List ℕ) (root room : ℕ) (mode : Mode) (passes : checkOf book root ≡ 0) where
   -- every message: its data is what stands after the four-byte header
-  pub message-demand-3 : (message : List ℕ) → AreBytes message → Safe book (drop 4 message) root (readOf book root message room)
+  pub message-demand-3 : (message : List ℕ) → AreBytes message → Safe book (drop 4 message) root (readOf book root message mode room)
   unfolding messageBy codeOf
   message-demand-3 message bytes =
       let s = drop 4 message in
@@ -72,23 +73,23 @@ module _ (book : List ℕ) (root room : ℕ) (passes : checkOf book root ≡ 0) 
       taken book s root _ (checkOf book root) (check-says book root) passes
       (too-long book s root (ltb 65536 (length message)) _ long
       (by-refused book s root (ltb (length message) 4) NotEnoughData _ (λ e. before book s root NotEnoughData (of-reading too-few-bytes) (λ z. omega arith)) (λ e.
-      identified book s root (data-bytes message bytes) room (settingsOf (getD message 0 0) (getD message 1 0)) passes)))
+      identified book s root (data-bytes message bytes) room (settingsOf mode (getD message 0 0) (getD message 1 0)) passes)))
 
   -- all data
-  pub data-demand-3 : (id s : List ℕ) → AreBytes s → Safe book s root (readDataOf book root id s room)
+  pub data-demand-3 : (id s : List ℕ) → AreBytes s → Safe book s root (readDataOf book root id s mode room)
   unfolding dataBy
   data-demand-3 id s bytes =
       taken book s root _ (checkOf book root) (check-says book root) passes
       (too-long book s root (ltb 65532 (length s)) _ (λ e. ltb-true 65532 (length s) e)
-      (identified book s root bytes room (settingsOf (getD id 0 0) (getD id 1 0)) passes))
+      (identified book s root bytes room (settingsOf mode (getD id 0 0) (getD id 1 0)) passes))
 
   -- and with the index that `prepare` leaves where it says 0
   module _ (lent : List ℕ) (said : prepareOf book lent ≡ 0) where
-    pub prepared-demand-3 : (message : List ℕ) → AreBytes message → Safe book (drop 4 message) root (readPrepared book (preparedFrom book lent) root message room)
-    prepared-demand-3 message bytes = rw (prepared-same book lent (λ types. messageBy types root message room) said) (message-demand-3 message bytes)
+    pub prepared-demand-3 : (message : List ℕ) → AreBytes message → Safe book (drop 4 message) root (readPrepared book (preparedFrom book lent) root message mode room)
+    prepared-demand-3 message bytes = rw (prepared-same book lent (λ types. messageBy types root message mode room) said) (message-demand-3 message bytes)
 
-    pub data-prepared-demand-3 : (id s : List ℕ) → AreBytes s → Safe book s root (readDataPrepared book (preparedFrom book lent) root id s room)
-    data-prepared-demand-3 id s bytes = rw (prepared-same book lent (λ types. dataBy types root id s room) said) (data-demand-3 id s bytes)
+    pub data-prepared-demand-3 : (id s : List ℕ) → AreBytes s → Safe book s root (readDataPrepared book (preparedFrom book lent) root id s mode room)
+    data-prepared-demand-3 id s bytes = rw (prepared-same book lent (λ types. dataBy types root id s mode room) said) (data-demand-3 id s bytes)
 
 -- AND OF THE CALLS THEMSELVES, by what they promise: `Settled`, and `Returned` for C
 pub call-demand-3 : (book s : List ℕ) (root : ℕ) (w : Result) (before after : List ℕ) (r : Answer) → Safe book s root w → Settled w before after r → SafeCall book s root before after r
@@ -116,25 +117,25 @@ word-demand-3 book s root w before after r safe d =
     }
 
 -- ONE FOR EACH CALL: from `check` = 0 to what the call gives back and what its table holds. What a slice lends are bytes
-module _ (book : List ℕ) (root : ℕ) (passes : checkOf book root ≡ 0) (before after : List ℕ) where
+module _ (book : List ℕ) (root : ℕ) (mode : Mode) (passes : checkOf book root ≡ 0) (before after : List ℕ) where
   module _ (message : List ℕ) (bytes : AreBytes message) where
-    pub read-safe : (r : Answer) → Settled (readOf book root message (capacity before)) before after r → SafeCall book (drop 4 message) root before after r
-    read-safe r d = call-demand-3 book (drop 4 message) root _ before after r (message-demand-3 book root (capacity before) passes message bytes) d
+    pub read-safe : (r : Answer) → Settled (readOf book root message mode (capacity before)) before after r → SafeCall book (drop 4 message) root before after r
+    read-safe r d = call-demand-3 book (drop 4 message) root _ before after r (message-demand-3 book root (capacity before) mode passes message bytes) d
 
-    pub sinotayam-read-safe : (r : ℕ) → Returned (readOf book root message (capacity before)) before after r → SafeWord book (drop 4 message) root before after r
-    sinotayam-read-safe r d = word-demand-3 book (drop 4 message) root _ before after r (message-demand-3 book root (capacity before) passes message bytes) d
+    pub sinotayam-read-safe : (r : ℕ) → Returned (readOf book root message mode (capacity before)) before after r → SafeWord book (drop 4 message) root before after r
+    sinotayam-read-safe r d = word-demand-3 book (drop 4 message) root _ before after r (message-demand-3 book root (capacity before) mode passes message bytes) d
 
     -- with the index that `prepare` leaves where it says 0
     module _ (lent : List ℕ) (said : prepareOf book lent ≡ 0) where
-      pub read-prepared-safe : (r : Answer) → Settled (readPrepared book (preparedFrom book lent) root message (capacity before)) before after r → SafeCall book (drop 4 message) root before after r
-      read-prepared-safe r d = call-demand-3 book (drop 4 message) root _ before after r (prepared-demand-3 book root (capacity before) passes lent said message bytes) d
+      pub read-prepared-safe : (r : Answer) → Settled (readPrepared book (preparedFrom book lent) root message mode (capacity before)) before after r → SafeCall book (drop 4 message) root before after r
+      read-prepared-safe r d = call-demand-3 book (drop 4 message) root _ before after r (prepared-demand-3 book root (capacity before) mode passes lent said message bytes) d
 
-      pub sinotayam-read-prepared-safe : (r : ℕ) → Returned (readPrepared book (preparedFrom book lent) root message (capacity before)) before after r → SafeWord book (drop 4 message) root before after r
-      sinotayam-read-prepared-safe r d = word-demand-3 book (drop 4 message) root _ before after r (prepared-demand-3 book root (capacity before) passes lent said message bytes) d
+      pub sinotayam-read-prepared-safe : (r : ℕ) → Returned (readPrepared book (preparedFrom book lent) root message mode (capacity before)) before after r → SafeWord book (drop 4 message) root before after r
+      sinotayam-read-prepared-safe r d = word-demand-3 book (drop 4 message) root _ before after r (prepared-demand-3 book root (capacity before) mode passes lent said message bytes) d
 
   module _ (id s : List ℕ) (bytes : AreBytes s) where
-    pub read-data-safe : (r : Answer) → Settled (readDataOf book root id s (capacity before)) before after r → SafeCall book s root before after r
-    read-data-safe r d = call-demand-3 book s root _ before after r (data-demand-3 book root (capacity before) passes id s bytes) d
+    pub read-data-safe : (r : Answer) → Settled (readDataOf book root id s mode (capacity before)) before after r → SafeCall book s root before after r
+    read-data-safe r d = call-demand-3 book s root _ before after r (data-demand-3 book root (capacity before) mode passes id s bytes) d
 
-    pub read-data-prepared-safe : (lent : List ℕ) → prepareOf book lent ≡ 0 → (r : Answer) → Settled (readDataPrepared book (preparedFrom book lent) root id s (capacity before)) before after r → SafeCall book s root before after r
-    read-data-prepared-safe lent said r d = call-demand-3 book s root _ before after r (data-prepared-demand-3 book root (capacity before) passes lent said id s bytes) d
+    pub read-data-prepared-safe : (lent : List ℕ) → prepareOf book lent ≡ 0 → (r : Answer) → Settled (readDataPrepared book (preparedFrom book lent) root id s mode (capacity before)) before after r → SafeCall book s root before after r
+    read-data-prepared-safe lent said r d = call-demand-3 book s root _ before after r (data-prepared-demand-3 book root (capacity before) mode passes lent said id s bytes) d

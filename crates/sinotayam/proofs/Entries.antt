@@ -6,6 +6,7 @@ use native.Mathlib.Omega.{arith}
 use lib.ListN.{length, getD, take, drop, length-drop}
 use lib.Seq.{take-all}
 use borrow.Author.Tests.{le-leb, lt-leb, le-ltb, lt-ltb}
+use Rattle.wire.specs.declared.settings.Mode.{Mode}
 use Rattle.wire.specs.declared.settings.Settings.{Settings}
 use Rattle.wire.specs.declared.settings.Representation.{Representation}
 use Rattle.wire.specs.declared.settings.Representation.the-variants.{Known, Unknown}
@@ -35,37 +36,37 @@ length-types b [] = refl
 length-types b (p ∷ ps) = ap suc (length-types b ps)
 
 -- a message, by the places of the types
-module _ (b places : List ℕ) (root : ℕ) (message : List ℕ) (room : ℕ) (t v : List ℕ) (r : Answer) where
-  pub message-root : length places ≤ root → Settled (refusedBy BadRoot) t v r → Settled (messageBy (typesBy b places) root message room) t v r
+module _ (b places : List ℕ) (root : ℕ) (message : List ℕ) (mode : Mode) (room : ℕ) (t v : List ℕ) (r : Answer) where
+  pub message-root : length places ≤ root → Settled (refusedBy BadRoot) t v r → Settled (messageBy (typesBy b places) root message mode room) t v r
   unfolding messageBy refusedIf
   message-root h d = settled-same (rw (length-types b places, le-leb (length places) root h)) d
 
-  pub message-long : root < length places → 65536 < length message → Settled (refusedBy TooLong) t v r → Settled (messageBy (typesBy b places) root message room) t v r
+  pub message-long : root < length places → 65536 < length message → Settled (refusedBy TooLong) t v r → Settled (messageBy (typesBy b places) root message mode room) t v r
   unfolding messageBy refusedIf
   message-long h k d = settled-same (rw (length-types b places, lt-leb (length places) root h, lt-ltb 65536 (length message) k)) d
 
-  pub message-under : root < length places → length message ≤ 65536 → length message < 4 → Settled (refusedBy NotEnoughData) t v r → Settled (messageBy (typesBy b places) root message room) t v r
+  pub message-under : root < length places → length message ≤ 65536 → length message < 4 → Settled (refusedBy NotEnoughData) t v r → Settled (messageBy (typesBy b places) root message mode room) t v r
   unfolding messageBy refusedIf
   message-under h k l d =
       settled-same (rw (length-types b places, lt-leb (length places) root h, le-ltb 65536 (length message) k, lt-ltb (length message) 4 l)) d
 
   -- the code lends the message from its fifth byte to its end
-  pub message-rest : root < length places → length message ≤ 65536 → 4 ≤ length message → Settled (byIdentifier (typesBy b places) root (take (length message - 4) (drop 4 message)) room (settingsOf (getD message 0 0) (getD message 1 0))) t v r → Settled (messageBy (typesBy b places) root message room) t v r
+  pub message-rest : root < length places → length message ≤ 65536 → 4 ≤ length message → Settled (byIdentifier (typesBy b places) root (take (length message - 4) (drop 4 message)) room (settingsOf mode (getD message 0 0) (getD message 1 0))) t v r → Settled (messageBy (typesBy b places) root message mode room) t v r
   unfolding messageBy refusedIf
   message-rest h k l d =
       let e : take (length message - 4) (drop 4 message) ≡ drop 4 message = take-all (length message - 4) (drop 4 message) (simp length-drop (omega arith)) in
       settled-same (rw (length-types b places, lt-leb (length places) root h, le-ltb 65536 (length message) k, le-ltb (length message) 4 l)) (rw e at d)
 
 -- data, by the places of the types
-module _ (b places : List ℕ) (root : ℕ) (id s : List ℕ) (room : ℕ) (t v : List ℕ) (r : Answer) where
-  pub data-root : length places ≤ root → Settled (refusedBy BadRoot) t v r → Settled (dataBy (typesBy b places) root id s room) t v r
+module _ (b places : List ℕ) (root : ℕ) (id s : List ℕ) (mode : Mode) (room : ℕ) (t v : List ℕ) (r : Answer) where
+  pub data-root : length places ≤ root → Settled (refusedBy BadRoot) t v r → Settled (dataBy (typesBy b places) root id s mode room) t v r
   unfolding dataBy refusedIf
   data-root h d = settled-same (rw (length-types b places, le-leb (length places) root h)) d
 
-  pub data-long : root < length places → 65532 < length s → Settled (refusedBy TooLong) t v r → Settled (dataBy (typesBy b places) root id s room) t v r
+  pub data-long : root < length places → 65532 < length s → Settled (refusedBy TooLong) t v r → Settled (dataBy (typesBy b places) root id s mode room) t v r
   unfolding dataBy refusedIf
   data-long h k d = settled-same (rw (length-types b places, lt-leb (length places) root h, lt-ltb 65532 (length s) k)) d
 
-  pub data-rest : root < length places → length s ≤ 65532 → Settled (byIdentifier (typesBy b places) root s room (settingsOf (getD id 0 0) (getD id 1 0))) t v r → Settled (dataBy (typesBy b places) root id s room) t v r
+  pub data-rest : root < length places → length s ≤ 65532 → Settled (byIdentifier (typesBy b places) root s room (settingsOf mode (getD id 0 0) (getD id 1 0))) t v r → Settled (dataBy (typesBy b places) root id s mode room) t v r
   unfolding dataBy refusedIf
   data-rest h k d = settled-same (rw (length-types b places, lt-leb (length places) root h, le-ltb 65532 (length s) k)) d

@@ -1,10 +1,14 @@
 -- Laws of the answers that C sees. Assumes nothing.
-use mathlib.Core.Path.{_≡_, ap, _∙_}
+use mathlib.Core.Path.{_≡_, refl, ap, _∙_}
 use mathlib.Core.List.{List}
-use Prim.Native.Nat.{ℕ}
+use Prim.Native.Nat.{ℕ, zero, suc}
+use Rattle.wire.specs.declared.settings.Mode.{Mode}
+use Rattle.wire.specs.declared.settings.Mode.the-variants.{Crate, Standard}
+use Rattle.sinotayam.specs.Entry.{readOf}
+use Rattle.sinotayam.specs.Prepared.{readPrepared}
 use Rattle.sinotayam.specs.declared.answer.Status.{Status}
 use Rattle.sinotayam.specs.declared.answer.Answer.{Answer}
-use Rattle.sinotayam.specs.Answer.{codeOf, Result, packed, Settled, Returned}
+use Rattle.sinotayam.specs.Answer.{codeOf, modeOf, Result, packed, Settled, Returned}
 
 pub same-code : (r : ℕ) (n : Status) (m : ℕ) → r ≡ codeOf n → codeOf n ≡ m → r ≡ m
 same-code r n m e f = e ∙ f
@@ -15,3 +19,20 @@ returned w t v a x d e =
       word = e ∙ ap (λ (n : ℕ). packed n (a .rows)) (d .number) ∙ ap (packed (w .number)) (d .count);
       table = d .table;
     }
+
+-- the same in the mode that a number names
+pub returned-read : (b : List ℕ) (root : ℕ) (message : List ℕ) (m : Mode) (k room : ℕ) (t v : List ℕ) (a : Answer) (x : ℕ) → m ≡ modeOf k → Settled (readOf b root message m room) t v a → x ≡ packed (codeOf (a .status)) (a .rows) → Returned (readOf b root message (modeOf k) room) t v x
+returned-read b root message m k room t v a x e d f = returned _ t v a x (rw e at d) f
+
+pub returned-prepared : (b index : List ℕ) (root : ℕ) (message : List ℕ) (m : Mode) (k room : ℕ) (t v : List ℕ) (a : Answer) (x : ℕ) → m ≡ modeOf k → Settled (readPrepared b index root message m room) t v a → x ≡ packed (codeOf (a .status)) (a .rows) → Returned (readPrepared b index root message (modeOf k) room) t v x
+returned-prepared b index root message m k room t v a x e d f = returned _ t v a x (rw e at d) f
+
+-- the mode by its number
+pub mode-crate : (n : ℕ) → n ≡ 0 → Crate ≡ modeOf n
+unfolding modeOf
+mode-crate n e = rw e
+
+pub mode-standard : (n : ℕ) → (n ≡ 0 → ⊥) → Standard ≡ modeOf n
+unfolding modeOf
+mode-standard zero e = absurd (e refl)
+mode-standard (suc n) e = refl

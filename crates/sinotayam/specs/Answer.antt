@@ -1,8 +1,10 @@
 -- What a call gives back: a number of document 01's table, and rows.
-use Prim.Native.Nat.{ℕ, _+_, _-_, _*_, _%_, _^_}
+use Prim.Native.Nat.{ℕ, zero, suc, _+_, _-_, _*_, _%_, _^_}
 use mathlib.Core.Path.{_≡_}
 use mathlib.Core.List.{List, [], _++_}
 use lib.ListN.{length, replicate}
+use Rattle.wire.specs.declared.settings.Mode.{Mode}
+use Rattle.wire.specs.declared.settings.Mode.the-variants.{Crate, Standard}
 use Rattle.table.specs.declared.rows.Row.{Row}
 use Rattle.table.specs.Rows.{width, words}
 use Rattle.table.specs.Outcome.{Outcome, numberOf, rowsOf}
@@ -26,6 +28,11 @@ codeOf NoRoom = 13
 codeOf NoDiscriminator = 14
 codeOf NotText = 15
 codeOf Unfit = 16
+
+-- the mode by its number in a C call: 0 is the crate's, anything else the standard's
+unfoldable pub modeOf : ℕ → Mode
+modeOf zero = Crate
+modeOf (suc n) = Standard
 
 -- what a call comes to: document 01's number, and the rows
 pub record Result : Type 0 where

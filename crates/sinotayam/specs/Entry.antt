@@ -4,6 +4,7 @@ use mathlib.Core.Bool.{Bool, true, false, not}
 use mathlib.Core.List.{List}
 use lib.Dec.{leb, ltb}
 use lib.ListN.{length, getD, drop}
+use Rattle.wire.specs.declared.settings.Mode.{Mode}
 use Rattle.wire.specs.declared.settings.Representation.{Representation}
 use Rattle.wire.specs.declared.settings.Representation.the-variants.{Known, Unknown}
 use Rattle.wire.specs.Identifier.{settingsOf}
@@ -26,28 +27,28 @@ byIdentifier types root s room (Known set) = resultOf (reading types s set root 
 
 -- a message of a type of these: two bytes of identifier, two of options, then the data.
 -- 9, "BadRoot: root index not below the number of types", 10, "TooLong: message over 65,536 bytes", "message under 4 bytes (1)"
-unfoldable pub messageBy : List BookType → ℕ → List ℕ → ℕ → Result
-messageBy types root message room =
+unfoldable pub messageBy : List BookType → ℕ → List ℕ → Mode → ℕ → Result
+messageBy types root message mode room =
     refusedIf (leb (length types) root) BadRoot
     (refusedIf (ltb 65536 (length message)) TooLong
     (refusedIf (ltb (length message) 4) NotEnoughData
-    (byIdentifier types root (drop 4 message) room (settingsOf (getD message 0 0) (getD message 1 0)))))
+    (byIdentifier types root (drop 4 message) room (settingsOf mode (getD message 0 0) (getD message 1 0)))))
 
 -- data whose identifier is known: "(65,532 bytes after the four-byte header)"
-unfoldable pub dataBy : List BookType → ℕ → List ℕ → List ℕ → ℕ → Result
-dataBy types root id s room =
+unfoldable pub dataBy : List BookType → ℕ → List ℕ → List ℕ → Mode → ℕ → Result
+dataBy types root id s mode room =
     refusedIf (leb (length types) root) BadRoot
     (refusedIf (ltb 65532 (length s)) TooLong
-    (byIdentifier types root s room (settingsOf (getD id 0 0) (getD id 1 0))))
+    (byIdentifier types root s room (settingsOf mode (getD id 0 0) (getD id 1 0))))
 
 -- 8, "BadBook: a book rule below is broken"; else what follows, with the types of the book
 unfoldable pub withBook : List ℕ → (List BookType → Result) → Result
 withBook book next = refusedIf (not (bookOk book)) BadBook (next (typesOf book))
 
--- READING A MESSAGE: book, root, message, and the rows there is room for
-abbrev pub readOf : List ℕ → ℕ → List ℕ → ℕ → Result
-readOf book root message room = withBook book (λ types. messageBy types root message room)
+-- READING A MESSAGE: book, root, message, the mode, and the rows there is room for
+abbrev pub readOf : List ℕ → ℕ → List ℕ → Mode → ℕ → Result
+readOf book root message mode room = withBook book (λ types. messageBy types root message mode room)
 
 -- READING DATA whose identifier is known
-abbrev pub readDataOf : List ℕ → ℕ → List ℕ → List ℕ → ℕ → Result
-readDataOf book root id s room = withBook book (λ types. dataBy types root id s room)
+abbrev pub readDataOf : List ℕ → ℕ → List ℕ → List ℕ → Mode → ℕ → Result
+readDataOf book root id s mode room = withBook book (λ types. dataBy types root id s mode room)

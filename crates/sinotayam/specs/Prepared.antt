@@ -6,6 +6,7 @@ use mathlib.Core.List.{List, _∷_, _++_}
 use lib.Dec.{eqb, ltb}
 use lib.ListN.{length, getD, take, drop, set}
 use Rattle.ground.specs.Choice.{pick, both}
+use Rattle.wire.specs.declared.settings.Mode.{Mode}
 use Rattle.book.specs.Types.{BookType, typeCount}
 use Rattle.book.specs.Places.{placesFrom, typesBy}
 use Rattle.book.specs.Rules.{bookOk}
@@ -40,8 +41,8 @@ unfoldable pub withIndex : List ℕ → List ℕ → (List BookType → Result) 
 withIndex book index next = refusedIf (eqb (length (placesIn index)) 0) BadBook (next (typesIn book index))
 
 -- READING WITH AN INDEX, a message and data
-abbrev pub readPrepared : List ℕ → List ℕ → ℕ → List ℕ → ℕ → Result
-readPrepared book index root message room = withIndex book index (λ types. messageBy types root message room)
+abbrev pub readPrepared : List ℕ → List ℕ → ℕ → List ℕ → Mode → ℕ → Result
+readPrepared book index root message mode room = withIndex book index (λ types. messageBy types root message mode room)
 
-abbrev pub readDataPrepared : List ℕ → List ℕ → ℕ → List ℕ → List ℕ → ℕ → Result
-readDataPrepared book index root id s room = withIndex book index (λ types. dataBy types root id s room)
+abbrev pub readDataPrepared : List ℕ → List ℕ → ℕ → List ℕ → List ℕ → Mode → ℕ → Result
+readDataPrepared book index root id s mode room = withIndex book index (λ types. dataBy types root id s mode room)

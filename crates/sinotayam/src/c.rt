@@ -2,7 +2,7 @@
 ghost use mathlib.Core.Path.{_≡_};
 ghost use Rattle.table.specs.Rows.{capacity};
 ghost use Rattle.fit.specs.Check.{checkOf};
-ghost use Rattle.sinotayam.specs.Answer.{codeOf, packed, Returned};
+ghost use Rattle.sinotayam.specs.Answer.{codeOf, modeOf, packed, Returned};
 ghost use Rattle.sinotayam.specs.Entry.{readOf};
 ghost use Rattle.sinotayam.specs.Prepared.{prepareOf, preparedFrom, readPrepared};
 ghost use Rattle.sinotayam.specs.Text.{textNumber};
@@ -11,6 +11,7 @@ use crate::prepared::prepare;
 use crate::read;
 use crate::read_prepared;
 use crate::texts::text_status;
+use wire::settings::Mode;
 
 // 2 to the 56th: beside the number's byte a word has 56 bits for the count of rows.
 const COUNTS: u64 = 72057594037927936;
@@ -24,11 +25,28 @@ fn pack(a: Answer) -> u64
     rows % COUNTS * 256 + ground::wide(status.code())
 }
 
-#[no_mangle]
-pub extern "C" fn sinotayam_read(book: &[u8], root: u16, message: &[u8], table: &mut [u64]) -> u64
-    ensures { λ r. ⌜ Returned (readOf (now (book .entry)) root (now (message .entry)) (capacity (now (table .entry)))) (now (table .entry)) (now (table .exit)) r ⌝ }
+// The mode by its number: 0 is the crate's, anything else the standard's.
+fn mode_of(standard: u8) -> Mode
+    ensures { λ r. ⌜ r ≡ modeOf standard ⌝ }
 {
-    pack(read(book, root as usize, message, table))
+    match standard {
+        0 => Mode::Crate,
+        _ => Mode::Standard,
+    }
+}
+
+#[no_mangle]
+pub extern "C" fn sinotayam_read(
+    book: &[u8],
+    root: u16,
+    message: &[u8],
+    standard: u8,
+    table: &mut [u64],
+) -> u64
+    ensures { λ r. ⌜ Returned (readOf (now (book .entry)) root (now (message .entry)) (modeOf standard) (capacity (now (table .entry)))) (now (table .entry)) (now (table .exit)) r ⌝ }
+{
+    let mode = mode_of(standard);
+    pack(read(book, root as usize, message, mode, table))
 }
 
 // The type check: 0, 8, 9 or 16.
@@ -52,11 +70,13 @@ pub extern "C" fn sinotayam_read_prepared(
     index: &[u32],
     root: u16,
     message: &[u8],
+    standard: u8,
     table: &mut [u64],
 ) -> u64
-    ensures { λ r. ⌜ Returned (readPrepared (now (book .entry)) (now (index .entry)) root (now (message .entry)) (capacity (now (table .entry)))) (now (table .entry)) (now (table .exit)) r ⌝ }
+    ensures { λ r. ⌜ Returned (readPrepared (now (book .entry)) (now (index .entry)) root (now (message .entry)) (modeOf standard) (capacity (now (table .entry)))) (now (table .entry)) (now (table .exit)) r ⌝ }
 {
-    pack(read_prepared(book, index, root as usize, message, table))
+    let mode = mode_of(standard);
+    pack(read_prepared(book, index, root as usize, message, mode, table))
 }
 
 #[no_mangle]

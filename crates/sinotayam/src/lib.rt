@@ -22,10 +22,18 @@ use crate::reading::LONGEST;
 use crate::reading::data_by;
 use crate::reading::identified;
 use book::judge::judge_into;
+use wire::settings::Mode;
 
 // A message of one of the types at these places.
-fn message_by(book: &[u8], places: &[u32], root: usize, message: &[u8], table: &mut [u64]) -> Answer
-    ensures { λ r. ⌜ Settled (messageBy (typesBy (now (book .entry)) (now (places .entry))) root (now (message .entry)) (capacity (now (table .entry)))) (now (table .entry)) (now (table .exit)) r ⌝ }
+fn message_by(
+    book: &[u8],
+    places: &[u32],
+    root: usize,
+    message: &[u8],
+    mode: Mode,
+    table: &mut [u64],
+) -> Answer
+    ensures { λ r. ⌜ Settled (messageBy (typesBy (now (book .entry)) (now (places .entry))) root (now (message .entry)) mode (capacity (now (table .entry)))) (now (table .entry)) (now (table .exit)) r ⌝ }
 {
     if places.len() <= root {
         return refused(table, Status::BadRoot);
@@ -37,7 +45,7 @@ fn message_by(book: &[u8], places: &[u32], root: usize, message: &[u8], table: &
         return refused(table, Status::NotEnoughData);
     }
     let id = [message[0], message[1]];
-    identified(book, places, root, id, &message[HEADER..], table)
+    identified(book, places, root, id, &message[HEADER..], mode, table)
 }
 
 // Reads a message with an index that `prepare` made. The book is not judged again: of another index the answer is what the rules say of
@@ -47,16 +55,17 @@ pub fn read_prepared(
     index: &[u32],
     root: usize,
     message: &[u8],
+    mode: Mode,
     table: &mut [u64],
 ) -> Answer
-    ensures { λ r. ⌜ Settled (readPrepared (now (book .entry)) (now (index .entry)) root (now (message .entry)) (capacity (now (table .entry)))) (now (table .entry)) (now (table .exit)) r ⌝ }
+    ensures { λ r. ⌜ Settled (readPrepared (now (book .entry)) (now (index .entry)) root (now (message .entry)) mode (capacity (now (table .entry)))) (now (table .entry)) (now (table .exit)) r ⌝ }
 {
     let n = count(index);
     if n == 0 {
         return refused(table, Status::BadBook);
     }
     let end = n + 1;
-    message_by(book, &index[1..end], root, message, table)
+    message_by(book, &index[1..end], root, message, mode, table)
 }
 
 pub fn read_data_prepared(
@@ -65,35 +74,43 @@ pub fn read_data_prepared(
     root: usize,
     id: [u8; 2],
     s: &[u8],
+    mode: Mode,
     table: &mut [u64],
 ) -> Answer
-    ensures { λ r. ⌜ Settled (readDataPrepared (now (book .entry)) (now (index .entry)) root id (now (s .entry)) (capacity (now (table .entry)))) (now (table .entry)) (now (table .exit)) r ⌝ }
+    ensures { λ r. ⌜ Settled (readDataPrepared (now (book .entry)) (now (index .entry)) root id (now (s .entry)) mode (capacity (now (table .entry)))) (now (table .entry)) (now (table .exit)) r ⌝ }
 {
     let n = count(index);
     if n == 0 {
         return refused(table, Status::BadBook);
     }
     let end = n + 1;
-    data_by(book, &index[1..end], root, id, s, table)
+    data_by(book, &index[1..end], root, id, s, mode, table)
 }
 
 // Reads a message: the Rust's deserialize_top_level_type. The index is this call's own, so the judge's places go into it before the
 // verdict.
-pub fn read(book: &[u8], root: usize, message: &[u8], table: &mut [u64]) -> Answer
-    ensures { λ r. ⌜ Settled (readOf (now (book .entry)) root (now (message .entry)) (capacity (now (table .entry)))) (now (table .entry)) (now (table .exit)) r ⌝ }
+pub fn read(book: &[u8], root: usize, message: &[u8], mode: Mode, table: &mut [u64]) -> Answer
+    ensures { λ r. ⌜ Settled (readOf (now (book .entry)) root (now (message .entry)) mode (capacity (now (table .entry)))) (now (table .entry)) (now (table .exit)) r ⌝ }
 {
     let mut index = [0u32; WORDS];
     let n = judge_into(book, &mut index[1..]);
     index[0] = n as u32;
-    read_prepared(book, &index, root, message, table)
+    read_prepared(book, &index, root, message, mode, table)
 }
 
 // Reads data whose identifier is known: the Rust's deserialize_top_level_type_from_representation_identifier.
-pub fn read_data(book: &[u8], root: usize, id: [u8; 2], s: &[u8], table: &mut [u64]) -> Answer
-    ensures { λ r. ⌜ Settled (readDataOf (now (book .entry)) root id (now (s .entry)) (capacity (now (table .entry)))) (now (table .entry)) (now (table .exit)) r ⌝ }
+pub fn read_data(
+    book: &[u8],
+    root: usize,
+    id: [u8; 2],
+    s: &[u8],
+    mode: Mode,
+    table: &mut [u64],
+) -> Answer
+    ensures { λ r. ⌜ Settled (readDataOf (now (book .entry)) root id (now (s .entry)) mode (capacity (now (table .entry)))) (now (table .entry)) (now (table .exit)) r ⌝ }
 {
     let mut index = [0u32; WORDS];
     let n = judge_into(book, &mut index[1..]);
     index[0] = n as u32;
-    read_data_prepared(book, &index, root, id, s, table)
+    read_data_prepared(book, &index, root, id, s, mode, table)
 }

@@ -12,6 +12,7 @@ use crate::answer::refused;
 use reader::top_level_type;
 use table::out::Out;
 use table::rows::clear_after;
+use wire::settings::Mode;
 use wire::settings::Representation;
 use wire::settings::Settings;
 use wire::settings::settings_of;
@@ -53,11 +54,12 @@ pub fn identified(
     root: usize,
     id: [u8; 2],
     s: &[u8],
+    mode: Mode,
     table: &mut [u64],
 ) -> Answer
-    ensures { λ r. ⌜ Settled (byIdentifier (typesBy (now (book .entry)) (now (places .entry))) root (now (s .entry)) (capacity (now (table .entry))) (settingsOf (getD id 0 0) (getD id 1 0))) (now (table .entry)) (now (table .exit)) r ⌝ }
+    ensures { λ r. ⌜ Settled (byIdentifier (typesBy (now (book .entry)) (now (places .entry))) root (now (s .entry)) (capacity (now (table .entry))) (settingsOf mode (getD id 0 0) (getD id 1 0))) (now (table .entry)) (now (table .exit)) r ⌝ }
 {
-    match settings_of(id) {
+    match settings_of(id, mode) {
         Representation::Known(set) => data_as(book, places, root, set, s, table),
         Representation::Unknown => refused(table, Status::InvalidData),
     }
@@ -70,9 +72,10 @@ pub fn data_by(
     root: usize,
     id: [u8; 2],
     s: &[u8],
+    mode: Mode,
     table: &mut [u64],
 ) -> Answer
-    ensures { λ r. ⌜ Settled (dataBy (typesBy (now (book .entry)) (now (places .entry))) root id (now (s .entry)) (capacity (now (table .entry)))) (now (table .entry)) (now (table .exit)) r ⌝ }
+    ensures { λ r. ⌜ Settled (dataBy (typesBy (now (book .entry)) (now (places .entry))) root id (now (s .entry)) mode (capacity (now (table .entry)))) (now (table .entry)) (now (table .exit)) r ⌝ }
 {
     if places.len() <= root {
         return refused(table, Status::BadRoot);
@@ -80,5 +83,5 @@ pub fn data_by(
     if LONGEST - HEADER < s.len() {
         return refused(table, Status::TooLong);
     }
-    identified(book, places, root, id, s, table)
+    identified(book, places, root, id, s, mode, table)
 }

@@ -7,6 +7,7 @@ use Rattle.ground.specs.Choice.{every}
 use Rattle.wire.specs.Identifier.{settings}
 use Rattle.wire.specs.Place.{cursorAt, shortAt, alignmentOf, paddingOf, seekTo, alignTo, afterMove}
 use Rattle.wire.specs.Number.{numberAt, onBytes, numberHere, onAligned, readNumber, afterNumber}
+use Rattle.wire.specs.declared.settings.Mode.the-variants.{Crate}
 use Rattle.wire.specs.declared.settings.ByteOrder.the-variants.{BigEndian, LittleEndian}
 use Rattle.wire.specs.declared.settings.Version.the-variants.{Xcdr1, Xcdr2}
 use Rattle.text.specs.Unicode.{table37, table16, follow, restGood, utf8, utf16}
@@ -50,10 +51,10 @@ unfolding every table16 follow restGood
 utf16-ill-formed = refl
 
 abbrev string8 : List ℕ → Text
-string8 s = stringType s (settings LittleEndian Xcdr1) (cursorAt 0 0)
+string8 s = stringType s (settings Crate LittleEndian Xcdr1) (cursorAt 0 0)
 
 abbrev string16 : List ℕ → Text
-string16 s = wstringType s (settings LittleEndian Xcdr1) (cursorAt 0 0)
+string16 s = wstringType s (settings Crate LittleEndian Xcdr1) (cursorAt 0 0)
 
 -- document 01, 5: "STRING8 `00000000`: 1; with `41` added: empty, start 4."
 example5 : (string8 (0x00 ∷ 0x00 ∷ 0x00 ∷ 0x00 ∷ []) ≡ Short (shortAt (cursorAt 4 0)))
@@ -68,7 +69,7 @@ unfolding stringType bytesHere afterNumber afterMove readNumber onAligned number
 ill-formed = (refl, refl)
 
 -- document 01, 12, its string after the two headers: "`0A000000 01000050 02000000 4100`: start 12, 1 byte."
-example12 : stringType (0x0A ∷ 0x00 ∷ 0x00 ∷ 0x00 ∷ 0x01 ∷ 0x00 ∷ 0x00 ∷ 0x50 ∷ 0x02 ∷ 0x00 ∷ 0x00 ∷ 0x00 ∷ 0x41 ∷ 0x00 ∷ []) (settings LittleEndian Xcdr2) (cursorAt 8 0)
+example12 : stringType (0x0A ∷ 0x00 ∷ 0x00 ∷ 0x00 ∷ 0x01 ∷ 0x00 ∷ 0x00 ∷ 0x50 ∷ 0x02 ∷ 0x00 ∷ 0x00 ∷ 0x00 ∷ 0x41 ∷ 0x00 ∷ []) (settings Crate LittleEndian Xcdr2) (cursorAt 8 0)
     ≡ Got 12 1 (cursorAt 14 0)
 unfolding stringType bytesHere afterNumber afterMove readNumber onAligned numberHere onBytes numberAt alignTo seekTo paddingOf alignmentOf table37 follow restGood
 example12 = refl
@@ -79,7 +80,7 @@ unfolding wstringType wideHere afterNumber readNumber onAligned numberHere onByt
 example6 = (refl, refl)
 
 -- a pair; a low surrogate alone is 2, and 1 where a unit after it is missing
-pairs : (wstringType (0x00 ∷ 0x00 ∷ 0x00 ∷ 0x04 ∷ 0xD8 ∷ 0x00 ∷ 0xDF ∷ 0x02 ∷ []) (settings BigEndian Xcdr2) (cursorAt 0 0) ≡ Got 4 2 (cursorAt 8 0))
+pairs : (wstringType (0x00 ∷ 0x00 ∷ 0x00 ∷ 0x04 ∷ 0xD8 ∷ 0x00 ∷ 0xDF ∷ 0x02 ∷ []) (settings Crate BigEndian Xcdr2) (cursorAt 0 0) ≡ Got 4 2 (cursorAt 8 0))
     × (string16 (0x02 ∷ 0x00 ∷ 0x00 ∷ 0x00 ∷ 0x02 ∷ 0xDF ∷ []) ≡ Bad)
     × (string16 (0x04 ∷ 0x00 ∷ 0x00 ∷ 0x00 ∷ 0x02 ∷ 0xDF ∷ []) ≡ Short (shortAt (cursorAt 6 0)))
 unfolding wstringType wideHere afterNumber unitsHere onUnits unitThen readUnits readNumber onAligned numberHere onBytes numberAt alignTo seekTo paddingOf alignmentOf table16 follow restGood

@@ -1,5 +1,5 @@
 pub mod Scalars
 pub mod Lists
-pub mod Headers
+pub mod Counts
 pub mod Quickly
 pub mod Runs

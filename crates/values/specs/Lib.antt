@@ -1,4 +1,4 @@
 pub mod Scalar
 pub mod List
-pub mod Header
+pub mod Count
 pub mod Code

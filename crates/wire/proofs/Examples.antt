@@ -2,6 +2,7 @@
 use Prim.Native.Nat.{ℕ, _*_, _^_}
 use mathlib.Core.Path.{_≡_, refl}
 use mathlib.Core.List.{List, [], _∷_}
+use Rattle.wire.specs.declared.settings.Mode.the-variants.{Crate}
 use Rattle.wire.specs.Identifier.{settings, orderOf, settingsOf}
 use Rattle.wire.specs.Place.{cursorAt, shortAt, alignmentOf, paddingOf, seekTo, alignTo}
 use Rattle.wire.specs.Number.{numberAt, onBytes, numberHere, onAligned, readNumber, halvesOf, readFloat128, booleanIn, onByte, readBoolean}
@@ -23,10 +24,10 @@ abbrev start : Cursor
 start = cursorAt 0 0
 
 abbrev le1 : Settings
-le1 = settings LittleEndian Xcdr1
+le1 = settings Crate LittleEndian Xcdr1
 
 abbrev le2 : Settings
-le2 = settings LittleEndian Xcdr2
+le2 = settings Crate LittleEndian Xcdr2
 
 -- the reads with every definition on the way open
 unfoldable readsNumber : List ℕ → Settings → Cursor → ℕ → Number
@@ -85,23 +86,23 @@ little : readsFloat128 sixteen le1 start ≡ float128.Got 0x0201 (0x0403 * 2 ^ 4
 unfolding readsFloat128
 little = refl
 
-big : readsFloat128 sixteen (settings BigEndian Xcdr1) start ≡ float128.Got 0x0304 (0x0102 * 2 ^ 48) (cursorAt 16 0)
+big : readsFloat128 sixteen (settings Crate BigEndian Xcdr1) start ≡ float128.Got 0x0304 (0x0102 * 2 ^ 48) (cursorAt 16 0)
 unfolding readsFloat128
 big = refl
 
 -- PL_CDR2_BE and CDR_LE, and two that name nothing
-pl-cdr2-be : settingsOf 0 10 ≡ Known (settings BigEndian Xcdr2)
+pl-cdr2-be : settingsOf Crate 0 10 ≡ Known (settings Crate BigEndian Xcdr2)
 unfolding settingsOf orderOf
 pl-cdr2-be = refl
 
-cdr-le : settingsOf 0 1 ≡ Known (settings LittleEndian Xcdr1)
+cdr-le : settingsOf Crate 0 1 ≡ Known (settings Crate LittleEndian Xcdr1)
 unfolding settingsOf orderOf
 cdr-le = refl
 
-no-four : settingsOf 0 4 ≡ Unknown
+no-four : settingsOf Crate 0 4 ≡ Unknown
 unfolding settingsOf
 no-four = refl
 
-no-first : settingsOf 1 0 ≡ Unknown
+no-first : settingsOf Crate 1 0 ≡ Unknown
 unfolding settingsOf
 no-first = refl

@@ -9,18 +9,18 @@ use Rattle.book.specs.Places.{typesBy}
 use Rattle.table.specs.Outcome.{Outcome, andThen}
 use Rattle.choice.specs.declared.discriminator.Discriminator.{Discriminator}
 use Rattle.reader.specs.Value.{Nest, elementsOf, listValue, valueOf}
-use Rattle.reader.specs.Member.{foundOf, mmemberOf, optionalBy, fmemberOf}
+use Rattle.reader.specs.Member.{foundValue, mmemberOf, optionalBy, fmemberOf}
 use Rattle.reader.specs.Structure.{fmembersOf, mmembersOf}
 use Rattle.reader.specs.Union.{discriminatorBy, onDiscriminator, membersBy}
-use Rattle.reader.specs.Nested.{endingBy, bodyOf, nestedAt}
+use Rattle.reader.specs.Nested.{endingBy, membersOf, bodyOf, nestedAt}
 use Rattle.reader.specs.Code.Run.{runOf}
 
 module _ (book index s : List ℕ) (set : Settings) (d : ℕ) where
   abbrev pub nest : Nest
-  nest = nestedAt (typesBy book index) s set d
+  nest = nestedAt (typesBy book index) set d
 
   abbrev pub runIn : ℕ → ℕ → ℕ → Cursor → ℕ → Outcome
-  runIn ty id count c room = runOf nest ty id count 0 c room
+  runIn ty id count c room = runOf nest s ty id count 0 c room
 
   abbrev pub elementsIn : ℕ → ℕ → ℕ → Cursor → ℕ → Outcome
   elementsIn = elementsOf (typesBy book index) s set nest
@@ -31,8 +31,9 @@ module _ (book index s : List ℕ) (set : Settings) (d : ℕ) where
   abbrev pub valueIn : ℕ → ℕ → Cursor → ℕ → Outcome
   valueIn = valueOf (typesBy book index) s set nest
 
+  -- from the member's own data
   abbrev pub foundIn : Member → ℕ → Cursor → ℕ → Outcome
-  foundIn = foundOf (typesBy book index) s set nest
+  foundIn = foundValue (typesBy book index) s set nest
 
   abbrev pub mmemberIn : Member → Cursor → ℕ → Outcome
   mmemberIn = mmemberOf (typesBy book index) s set nest
@@ -57,6 +58,9 @@ module _ (book index s : List ℕ) (set : Settings) (d : ℕ) where
 
   abbrev pub chosenIn : Bool → Member → BookType → Cursor → ℕ → Discriminator → Outcome
   chosenIn mutable disc t c room v = onDiscriminator (typesBy book index) s set nest mutable disc (t .members) c room v
+
+  abbrev pub membersIn : BookType → Cursor → ℕ → Outcome
+  membersIn = membersOf (typesBy book index) s set nest
 
   abbrev pub bodyIn : BookType → Cursor → ℕ → Outcome
   bodyIn = bodyOf (typesBy book index) s set nest

@@ -10,7 +10,7 @@ same-length : tie.Need-same-length
 same-length c = search needs
 
 returns : tie.Need-returns
-returns c = search (needs, message-root)
+returns c = search (needs, message-root, message-long, message-under, message-rest)
 
 refused-requires-2 : tie.Need-refused-requires-2
 refused-requires-2 c κs = search needs
@@ -19,7 +19,7 @@ same-length-2 : tie.Need-same-length-2
 same-length-2 c = search needs
 
 returns-2 : tie.Need-returns-2
-returns-2 c = search (needs, message-long)
+returns-2 c = search (needs, message-root, message-long, message-under, message-rest)
 
 refused-requires-3 : tie.Need-refused-requires-3
 refused-requires-3 c κs = search needs
@@ -28,13 +28,13 @@ same-length-3 : tie.Need-same-length-3
 same-length-3 c = search needs
 
 returns-3 : tie.Need-returns-3
-returns-3 c = search (needs, message-under)
+returns-3 c = search (needs, message-root, message-long, message-under, message-rest)
 
-shared-slice-read-t19 : tie.Need-shared-slice-read-t19
-shared-slice-read-t19 c = search needs
+shared-slice-read-t20 : tie.Need-shared-slice-read-t20
+shared-slice-read-t20 c = search needs
 
-shared-slice-read-t21 : tie.Need-shared-slice-read-t21
-shared-slice-read-t21 c = search needs
+shared-slice-read-t22 : tie.Need-shared-slice-read-t22
+shared-slice-read-t22 c = search needs
 
 sub-identified : tie.Need-sub-identified
 sub-identified c = search needs
@@ -52,7 +52,7 @@ same-length-4 : tie.Need-same-length-4
 same-length-4 c = search needs
 
 returns-4 : tie.Need-returns-4
-returns-4 c = search (needs, message-rest)
+returns-4 c = search (needs, message-root, message-long, message-under, message-rest)
 
 pub message-by-spec : {M : Type 1} → statement M
 message-by-spec =
@@ -67,8 +67,8 @@ message-by-spec =
     refused-requires-3
     same-length-3
     returns-3
-    shared-slice-read-t19
-    shared-slice-read-t21
+    shared-slice-read-t20
+    shared-slice-read-t22
     sub-identified
     part-identified-start
     part-identified-end

@@ -1,5 +1,5 @@
+use Rattle.lookup.proofs.Xcdr2Turns.{times-word, times-fits, times-small}
 use Rattle.lookup.proofs.Aheads.{ahead-long, ahead-none}
-use Rattle.lookup.proofs.Xcdr2Turns.{times-word, times-fits}
 use borrow.Author.Needs.{needs}
 use Rattle.lookup.proofs.ahead.with_nextint.Statement.{statement}
 use Rattle.lookup.proofs.ahead.with_nextint.Tie as tie
@@ -14,7 +14,7 @@ no-header-requires : tie.Need-no-header-requires
 no-header-requires c κs = search needs
 
 returns : tie.Need-returns
-returns c = search (needs, ahead-long, ahead-none, times-word, times-fits)
+returns c = search (needs, ahead-long, ahead-none, times-word, times-fits, times-small)
 
 lc-requires : tie.Need-lc-requires
 lc-requires c κs = search needs
@@ -26,19 +26,19 @@ unit-requires : tie.Need-unit-requires
 unit-requires c κs = search needs
 
 mul-length : tie.Need-mul-length
-mul-length c = search (needs, ahead-long, ahead-none, times-word, times-fits)
+mul-length c = search (needs, times-word, times-fits, times-small)
 
 no-header-requires-2 : tie.Need-no-header-requires-2
 no-header-requires-2 c κs = search needs
 
 returns-2 : tie.Need-returns-2
-returns-2 c = search (needs, ahead-long, ahead-none, times-word, times-fits)
+returns-2 c = search (needs, ahead-long, ahead-none, times-word, times-fits, times-small)
 
 add-body : tie.Need-add-body
 add-body c = search needs
 
 next-header-requires : tie.Need-next-header-requires
-next-header-requires c κs = search (needs, ahead-long, ahead-none, times-word, times-fits)
+next-header-requires c κs = search (needs, times-word, times-fits, times-small)
 
 step-back-requires : tie.Need-step-back-requires
 step-back-requires c κs = search needs
@@ -46,11 +46,14 @@ step-back-requires c κs = search needs
 sub-ahead-of : tie.Need-sub-ahead-of
 sub-ahead-of c = search needs
 
+length-from-requires : tie.Need-length-from-requires
+length-from-requires c κs = search (needs, times-word, times-fits, times-small)
+
 ahead-of-requires : tie.Need-ahead-of-requires
 ahead-of-requires c κs = search needs
 
 returns-3 : tie.Need-returns-3
-returns-3 c = search (needs, ahead-long, ahead-none, times-word, times-fits)
+returns-3 c = search (needs, ahead-long, ahead-none, times-word, times-fits, times-small)
 
 pub with-nextint-spec : {M : Type 1} → statement M
 with-nextint-spec =
@@ -70,5 +73,6 @@ with-nextint-spec =
     next-header-requires
     step-back-requires
     sub-ahead-of
+    length-from-requires
     ahead-of-requires
     returns-3)

@@ -39,6 +39,9 @@ step-back-requires c κs = search needs
 sub-ahead-of : tie.Need-sub-ahead-of
 sub-ahead-of c = search needs
 
+length-from-requires : tie.Need-length-from-requires
+length-from-requires c κs = search needs
+
 ahead-of-requires : tie.Need-ahead-of-requires
 ahead-of-requires c κs = search needs
 
@@ -61,5 +64,6 @@ xcdr2-spec =
     next-header-requires
     step-back-requires
     sub-ahead-of
+    length-from-requires
     ahead-of-requires
     returns-3)

@@ -1,4 +1,4 @@
-use Rattle.lookup.proofs.Xcdr2Turns.{nextint-fits, nextint-got, nextint-short}
+use Rattle.lookup.proofs.Xcdr2Turns.{nextint-fits, nextint-got, nextint-short, nextint-small}
 use borrow.Author.Needs.{needs}
 use Rattle.lookup.proofs.xcdr2.nextint_times.Statement.{statement}
 use Rattle.lookup.proofs.xcdr2.nextint_times.Tie as tie
@@ -13,13 +13,13 @@ enum-known-nextint-2 : tie.Need-enum-known-nextint-2
 enum-known-nextint-2 c = search needs
 
 mul-t10 : tie.Need-mul-t10
-mul-t10 c = search (needs, nextint-fits)
+mul-t10 c = search (needs, nextint-fits, nextint-got, nextint-short, nextint-small)
 
 returns : tie.Need-returns
-returns c = search (needs, nextint-short)
+returns c = search (needs, nextint-fits, nextint-got, nextint-short, nextint-small)
 
 returns-2 : tie.Need-returns-2
-returns-2 c = search (needs, nextint-got)
+returns-2 c = search (needs, nextint-fits, nextint-got, nextint-short, nextint-small)
 
 pub nextint-times-spec : {M : Type 1} → statement M
 nextint-times-spec =

@@ -19,11 +19,14 @@ add-new c = search needs
 new-requires : tie.Need-new-requires
 new-requires c κs = search needs
 
-add-t17 : tie.Need-add-t17
-add-t17 c = search needs
+add-up-to : tie.Need-add-up-to
+add-up-to c = search needs
 
-add-t19 : tie.Need-add-t19
-add-t19 c = search needs
+add-up-to-2 : tie.Need-add-up-to-2
+add-up-to-2 c = search needs
+
+up-to-requires : tie.Need-up-to-requires
+up-to-requires c κs = search needs
 
 returns : tie.Need-returns
 returns c = search (needs, dheader-there, dheader-read, dheader-short)
@@ -37,8 +40,11 @@ enum-known-x c = search needs
 enum-known-n : tie.Need-enum-known-n
 enum-known-n c = search needs
 
-add-t23 : tie.Need-add-t23
-add-t23 c = omega (arith, dheader-parts _ _ _ _ (c .before .before .before .read-number .ensures) _ _ (c .before .n .given .1))
+add-up-to-3 : tie.Need-add-up-to-3
+add-up-to-3 c = omega (arith, dheader-parts _ _ _ _ (c .before .before .before .read-number .ensures) _ _ (c .before .n .given .1))
+
+up-to-requires-2 : tie.Need-up-to-requires-2
+up-to-requires-2 c κs = search needs
 
 returns-2 : tie.Need-returns-2
 returns-2 c = search (needs, dheader-there, dheader-read, dheader-short)
@@ -55,12 +61,14 @@ dheader-spec =
     from-bytes-requires
     add-new
     new-requires
-    add-t17
-    add-t19
+    add-up-to
+    add-up-to-2
+    up-to-requires
     returns
     read-number-requires
     enum-known-x
     enum-known-n
-    add-t23
+    add-up-to-3
+    up-to-requires-2
     returns-2
     returns-3)
