@@ -1,6 +1,6 @@
 -- Laws of the UTF-8 check: a row of the table, byte by byte; the loop's turn and end; the highest byte. Assumes nothing.
 use Prim.Native.Nat.{ℕ, zero, suc, _+_, _-_, _<_, _≤_}
-use mathlib.Core.Path.{_≡_, refl, sym, ap, _∙_}
+use mathlib.Core.Path.{_≡_, refl, sym, _∙_}
 use mathlib.Core.Bool.{Bool, true, false, _&&_}
 use mathlib.Core.List.{List, [], _∷_}
 use native.Mathlib.Omega.{arith}
@@ -9,35 +9,38 @@ use lib.ListN.{length, getD, take, drop, drop-of-length-le, length-drop}
 use lib.Seq.{drop-cons, drop-drop}
 use borrow.Author.Count.{below-more}
 use Rattle.ground.specs.Choice.{pick, both, Range, within}
-use Rattle.ground.proofs.Tests.{both-false, and-both}
+use Rattle.ground.proofs.Tests.{both-false, both-second, and-both, apart}
 use Rattle.text.specs.Unicode.{Follow, nothing, ranges, onFollow, follow, table37, restGood}
 use Rattle.text.specs.Code.Sequence.{begins, onRow, Row, rowLength, Passed}
 use Rattle.text.proofs.Table.{first-line}
 
--- one byte in its range, and then the others in theirs
-pub begins-at : (r : Range) (rs : List Range) (s : List ℕ) (i j : ℕ) → i < length s → j ≡ i + 1 → begins (r ∷ rs) (drop i s) ≡ both (within r (getD s i 0)) (begins rs (drop j s))
-unfolding begins
-begins-at r rs s i j h e = rw (e, add-one i, drop-cons s i 0 h)
-
-both-true : (p : Bool) → p ≡ both p true
-both-true true = refl
-both-true false = refl
+-- what is left of a list that has a byte at i
+from : (s : List ℕ) (i : ℕ) → i < length s → drop i s ≡ getD s i 0 ∷ drop (i + 1) s
+from s i h = rw (add-one i, drop-cons s i 0 h)
 
 -- fewer bytes than ranges
-pub too-few : (rs : List Range) (xs : List ℕ) → length xs < length rs → begins rs xs ≡ false
+too-few : (rs : List Range) (xs : List ℕ) → length xs < length rs → begins rs xs ≡ false
 unfolding begins
 too-few [] xs h = absurd (omega arith)
 too-few (r ∷ rs) [] h = refl
 too-few (r ∷ rs) (x ∷ xs) h = rw (too-few rs xs (omega arith)) (both-false (within r x))
 
+both-true : (p : Bool) → p ≡ both p true
+both-true true = refl
+both-true false = refl
+
 -- what the code's tests of the bytes after a first one, which stands at `at`, tell of its row
 module _ (s : List ℕ) (at : ℕ) where
   pub last-test : (i : ℕ) (r : Range) (p : Bool) → p ≡ within r (getD s (at + i) 0) → at + i < length s → p ≡ begins (r ∷ []) (drop (at + i) s)
   unfolding begins
-  last-test i r p e h = rw (begins-at r [] s (at + i) (at + i + 1) h refl, ← e) (both-true p)
+  last-test i r p e h = rw (from s (at + i) h, ← e) (both-true p)
 
-  pub next-test : (i j : ℕ) (r : Range) (rs : List Range) (p q : Bool) → p ≡ within r (getD s (at + i) 0) → q ≡ begins rs (drop (at + j) s) → at + i < length s → j ≡ i + 1 → (p && q) ≡ begins (r ∷ rs) (drop (at + i) s)
-  next-test i j r rs p q e f h k = rw (begins-at r rs s (at + i) (at + j) h (omega arith), ← e, ← f) (and-both p q)
+  pub next-test : (i : ℕ) (r : Range) (rs : List Range) (p q : Bool) → p ≡ within r (getD s (at + i) 0) → q ≡ begins rs (drop (at + (i + 1)) s) → at + i < length s
+      → (p && q) ≡ begins (r ∷ rs) (drop (at + i) s)
+  unfolding begins
+  next-test i r rs p q e f h =
+      let k : at + (i + 1) ≡ at + i + 1 = omega arith in
+      rw (from s (at + i) h, ← e, ← k, ← f) (and-both p q)
 
   pub row-tested : (rs : List Range) (p : Bool) (n : ℕ) → at < length s → p ≡ begins rs (drop (at + 1) s) → n ≡ pick p (suc (length rs)) 0 → Row s at (ranges rs) n
   unfolding onRow
@@ -47,33 +50,22 @@ module _ (s : List ℕ) (at : ℕ) where
   unfolding onRow
   row-short rs h k = record { begun = h; counted = rw (too-few rs (drop (at + 1) s) (simp length-drop (omega arith))) }
 
--- bytes that begin so, and what is left of them
-record Begun (rs : List Range) (xs : List ℕ) : Type 0 where
-  enough : length rs ≤ length xs
-  same : restGood table37 (drop (length rs) xs) [] ≡ restGood table37 xs rs
+-- ranges that are wanted: bytes that begin with one in each, and then whole rows
+both-pick : (w b g : Bool) → both w (pick b g false) ≡ pick (both w b) g false
+both-pick true b g = refl
+both-pick false b g = refl
 
-begun-one : (w : Bool) (r : Range) (rs : List Range) (x : ℕ) (xs : List ℕ) → within r x ≡ w → both w (begins rs xs) ≡ true → (begins rs xs ≡ true → Begun rs xs) → Begun (r ∷ rs) (x ∷ xs)
-unfolding restGood
-begun-one true r rs x xs e b f = let g = f b in record { enough = omega (arith, g .enough); same = rw e (g .same) }
-begun-one false r rs x xs e b f = absurd (let z : _≡_ {A = ℕ} 0 1 = cc in omega arith)
-
-begun : (rs : List Range) (xs : List ℕ) → begins rs xs ≡ true → Begun rs xs
-unfolding begins
-begun [] xs b = record { enough = omega arith; same = refl }
-begun (r ∷ rs) [] b = absurd (let z : _≡_ {A = ℕ} 0 1 = cc in omega arith)
-begun (r ∷ rs) (x ∷ xs) b = begun-one (within r x) r rs x xs refl b (begun rs xs)
-
--- bytes that do not
-not-begun-one : (w : Bool) (r : Range) (rs : List Range) (x : ℕ) (xs : List ℕ) → within r x ≡ w → both w (begins rs xs) ≡ false → (begins rs xs ≡ false → false ≡ restGood table37 xs rs) → false ≡ restGood table37 (x ∷ xs) (r ∷ rs)
-unfolding restGood
-not-begun-one true r rs x xs e b f = rw e (f b)
-not-begun-one false r rs x xs e b f = rw e
-
-not-begun : (rs : List Range) (xs : List ℕ) → begins rs xs ≡ false → false ≡ restGood table37 xs rs
+wanted : (rs : List Range) (xs : List ℕ) → restGood table37 xs rs ≡ pick (begins rs xs) (restGood table37 (drop (length rs) xs) []) false
 unfolding begins restGood
-not-begun [] xs b = absurd (let z : _≡_ {A = ℕ} 0 1 = cc in omega arith)
-not-begun (r ∷ rs) [] b = refl
-not-begun (r ∷ rs) (x ∷ xs) b = not-begun-one (within r x) r rs x xs refl b (not-begun rs xs)
+wanted [] xs = refl
+wanted (r ∷ rs) [] = refl
+wanted (r ∷ rs) (x ∷ xs) = rw (wanted rs xs) (both-pick (within r x) (begins rs xs) (restGood table37 (drop (length rs) xs) []))
+
+enough : (rs : List Range) (xs : List ℕ) → begins rs xs ≡ true → length rs ≤ length xs
+unfolding begins
+enough [] xs e = omega arith
+enough (r ∷ rs) [] e = absurd (apart e)
+enough (r ∷ rs) (x ∷ xs) e = omega (arith, enough rs xs (both-second (within r x) (begins rs xs) e))
 
 -- a sequence was taken, or there is none
 module _ (x : ℕ) (xs : List ℕ) where
@@ -81,7 +73,7 @@ module _ (x : ℕ) (xs : List ℕ) where
   Goes n good = (n ≤ suc (length xs)) × (restGood table37 (drop n (x ∷ xs)) [] ≡ good)
 
   row-taken : (b : Bool) (rs : List Range) → begins rs xs ≡ b → (pick b (suc (length rs)) 0 ≡ 0 → ⊥) → Goes (pick b (suc (length rs)) 0) (restGood table37 xs rs)
-  row-taken true rs e some = let g = begun rs xs e in (omega (arith, g .enough), g .same)
+  row-taken true rs e some = (omega (arith, enough rs xs e), rw (wanted rs xs, e))
   row-taken false rs e some = absurd (some refl)
 
   taken : (f : Follow) → (onRow f xs ≡ 0 → ⊥) → Goes (onRow f xs) (onFollow f (λ rs. restGood table37 xs rs))
@@ -91,7 +83,7 @@ module _ (x : ℕ) (xs : List ℕ) where
 
   row-none : (b : Bool) (rs : List Range) → begins rs xs ≡ b → pick b (suc (length rs)) 0 ≡ 0 → false ≡ restGood table37 xs rs
   row-none true rs e z = absurd (omega arith)
-  row-none false rs e z = not-begun rs xs e
+  row-none false rs e z = rw (wanted rs xs, e)
 
   none : (f : Follow) → onRow f xs ≡ 0 → false ≡ onFollow f (λ rs. restGood table37 xs rs)
   unfolding onRow
@@ -109,20 +101,20 @@ module _ (s : List ℕ) (i n : ℕ) (h : i < length s) (e : n ≡ rowLength (dro
   pub turn-on : (n ≡ 0 → ⊥) → Passed s i (i + n)
   unfolding restGood rowLength
   turn-on some =
-      let d : drop i s ≡ getD s i 0 ∷ drop (suc i) s = drop-cons s i 0 h in
+      let d = from s i h in
       let f = rw d at e in
-      let t = taken (getD s i 0) (drop (suc i) s) (follow table37 (getD s i 0)) (rw f at some) in
+      let t = taken (getD s i 0) (drop (i + 1) s) (follow table37 (getD s i 0)) (rw f at some) in
       record {
         beyond = omega arith;
-        inside = omega (arith, f, t .0, length-drop (suc i) s);
+        inside = omega (arith, f, t .0, length-drop (i + 1) s);
         same = rw (← drop-drop n i s, d, f) (t .1);
       }
 
   pub turn-bad : n ≡ 0 → false ≡ restGood table37 (drop i s) []
   unfolding restGood rowLength
   turn-bad z =
-      let d : drop i s ≡ getD s i 0 ∷ drop (suc i) s = drop-cons s i 0 h in
-      rw d (none (getD s i 0) (drop (suc i) s) (follow table37 (getD s i 0)) (sym (rw d at e) ∙ z))
+      let d = from s i h in
+      rw d (none (getD s i 0) (drop (i + 1) s) (follow table37 (getD s i 0)) (sym (rw d at e) ∙ z))
 
 -- past the last sequence
 pub at-end : (s : List ℕ) (i : ℕ) → length s ≤ i → true ≡ restGood table37 (drop i s) []
@@ -156,7 +148,7 @@ module _ (s : List ℕ) (at i : ℕ) (p : Passed s at i) where
   byte-passed l h = record {
     beyond = omega (arith, p .beyond);
     inside = omega arith;
-    same = rw (add-one i, ← p .same, drop-cons s i 0 l, ← first-line (getD s i 0) h);
+    same = rw (← p .same, from s i l, ← first-line (getD s i 0) h);
   }
 
 -- bytes that each are a line of the table by themselves

@@ -7,7 +7,7 @@ ghost use Rattle.ground.specs.Choice.{pick, within};
 ghost use Rattle.text.specs.Unicode.{utf8, ranges};
 ghost use Rattle.text.specs.Code.Sequence.{rangeOf, Row, rowLength, Passed};
 
-// What may stand in a column of the table: a byte from the first of these to the second.
+// A column of a line of the table: In(0xA0, 0xBF) is the standard's A0..BF.
 pub struct In(pub u8, pub u8);
 
 impl In {
@@ -18,13 +18,34 @@ impl In {
     }
 }
 
+// The Unicode standard's Table 3-7, a line for each of its lines and in its order: the first byte, then of how many bytes the sequence is, with the columns
+// of the second, third and fourth, and behind it the code points. The answer is that number of bytes; 0 where the bytes from `at` on are none of these.
+fn sequence_at(s: &[u8], at: usize) -> usize
+    requires { ⌜ at < length (now s) ⌝ }
+    ensures { λ r. ⌜ r ≡ rowLength (drop at (now (s .entry))) ⌝ }
+{
+    match s[at] {
+        0x00..=0x7F => 1, // U+0000..U+007F
+        0xC2..=0xDF => two(s, at, In(0x80, 0xBF)), // U+0080..U+07FF
+        0xE0 => three(s, at, In(0xA0, 0xBF), In(0x80, 0xBF)), // U+0800..U+0FFF
+        0xE1..=0xEC => three(s, at, In(0x80, 0xBF), In(0x80, 0xBF)), // U+1000..U+CFFF
+        0xED => three(s, at, In(0x80, 0x9F), In(0x80, 0xBF)), // U+D000..U+D7FF
+        0xEE..=0xEF => three(s, at, In(0x80, 0xBF), In(0x80, 0xBF)), // U+E000..U+FFFF
+        0xF0 => four(s, at, In(0x90, 0xBF), In(0x80, 0xBF), In(0x80, 0xBF)), // U+10000..U+3FFFF
+        0xF1..=0xF3 => four(s, at, In(0x80, 0xBF), In(0x80, 0xBF), In(0x80, 0xBF)), // U+40000..U+FFFFF
+        0xF4 => four(s, at, In(0x80, 0x8F), In(0x80, 0xBF), In(0x80, 0xBF)), // U+100000..U+10FFFF
+        _ => 0,
+    }
+}
+
+// The number of bytes of a line whose columns hold, and 0 of one whose do not.
 fn counted(n: usize, hold: bool) -> usize
     ensures { λ r. ⌜ r ≡ pick hold n 0 ⌝ }
 {
     if hold { n } else { 0 }
 }
 
-// A line of two bytes, of which the first stands at `at`: 2 where the second is in its column, and else 0.
+// A line of two bytes, of which the first stands at `at`: 2 where the next byte is there and in its column, else 0.
 fn two(s: &[u8], at: usize, second: In) -> usize
     requires { ⌜ at < length (now s) ⌝ }
     ensures { λ r. ⌜ Row (now (s .entry)) at (ranges (rangeOf second ∷ [])) r ⌝ }
@@ -58,26 +79,6 @@ fn four(s: &[u8], at: usize, second: In, third: In, fourth: In) -> usize
         4,
         second.holds(s[at + 1]) & third.holds(s[at + 2]) & fourth.holds(s[at + 3]),
     )
-}
-
-// Table 3-7, line by line in its order: the first byte, then for a line of two, three or four bytes the columns of those that follow, and last
-// the code points. The answer is how many bytes the line has; 0 where the bytes from `at` on are of no line, or are too few.
-fn sequence_at(s: &[u8], at: usize) -> usize
-    requires { ⌜ at < length (now s) ⌝ }
-    ensures { λ r. ⌜ r ≡ rowLength (drop at (now (s .entry))) ⌝ }
-{
-    match s[at] {
-        0x00..=0x7F => 1, // U+0000..U+007F
-        0xC2..=0xDF => two(s, at, In(0x80, 0xBF)), // U+0080..U+07FF
-        0xE0 => three(s, at, In(0xA0, 0xBF), In(0x80, 0xBF)), // U+0800..U+0FFF
-        0xE1..=0xEC => three(s, at, In(0x80, 0xBF), In(0x80, 0xBF)), // U+1000..U+CFFF
-        0xED => three(s, at, In(0x80, 0x9F), In(0x80, 0xBF)), // U+D000..U+D7FF
-        0xEE..=0xEF => three(s, at, In(0x80, 0xBF), In(0x80, 0xBF)), // U+E000..U+FFFF
-        0xF0 => four(s, at, In(0x90, 0xBF), In(0x80, 0xBF), In(0x80, 0xBF)), // U+10000..U+3FFFF
-        0xF1..=0xF3 => four(s, at, In(0x80, 0xBF), In(0x80, 0xBF), In(0x80, 0xBF)), // U+40000..U+FFFFF
-        0xF4 => four(s, at, In(0x80, 0x8F), In(0x80, 0xBF), In(0x80, 0xBF)), // U+100000..U+10FFFF
-        _ => 0,
-    }
 }
 
 fn greater(x: u8, y: u8) -> u8
@@ -130,7 +131,8 @@ fn past_ascii(s: &[u8], at: usize) -> usize
     i
 }
 
-// Most text is ASCII, which the highest byte tells. Of any other, one sequence is taken after the other; where it was of one byte, more of ASCII may follow.
+// Most text is ASCII, which the highest byte tells. Any other is taken by whole sequences; after one of a single byte the ASCII that follows is passed at
+// once, and after a longer one nothing is looked for, since text that is not ASCII mostly goes on so.
 pub fn is_utf8(s: &[u8]) -> bool
     ensures { λ r. ⌜ r ≡ utf8 (now (s .entry)) ⌝ }
 {

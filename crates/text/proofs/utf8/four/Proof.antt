@@ -1,5 +1,5 @@
 -- `text::utf8::four` meets its contract: the tests of the three bytes that follow. Assumes nothing.
-use mathlib.Core.Path.{refl, _∙_}
+use mathlib.Core.Path.{_∙_}
 use mathlib.Core.Bool.{and-assoc}
 use native.Mathlib.Omega.{arith}
 use borrow.Author.Needs.{needs}
@@ -44,10 +44,15 @@ counted-requires : tie.Need-counted-requires
 counted-requires c κs = search needs
 
 returns-2 : tie.Need-returns-2
-returns-2 c =
-    let s = c .before .before .before .before .before .before .before .before .before .args .s .now in
+returns-2 c = let s = c .before .before .before .before .before .before .before .before .before .args .s .now in
     let at = c .before .before .before .before .before .before .before .before .before .args .at in
-    row-tested s at _ _ _ (omega arith) (and-assoc (c .before .before .before .before .before .holds .result) (c .before .before .before .holds2 .result) (c .before .holds3 .result) ∙ next-test s at 1 2 _ _ _ _ (c .before .before .before .before .before .holds .ensures) (next-test s at 2 3 _ _ _ _ (c .before .before .before .holds2 .ensures) (last-test s at 3 _ _ (c .before .holds3 .ensures) (omega arith)) (omega arith) refl) (omega arith) refl) (c .counted .ensures)
+    let b = c .before .before .before .before .before .holds in
+    let d = c .before .before .before .holds2 in
+    let e = c .before .holds3 in
+    row-tested s at _ _ _ (omega arith)
+    (and-assoc (b .result) (d .result) (e .result)
+    ∙ next-test s at 1 _ _ _ _ (b .ensures) (next-test s at 2 _ _ _ _ (d .ensures) (last-test s at 3 _ _ (e .ensures) (omega arith)) (omega arith)) (omega arith))
+    (c .counted .ensures)
 
 pub four-spec : {M : Type 1} → statement M
 four-spec =

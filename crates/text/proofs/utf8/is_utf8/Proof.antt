@@ -1,10 +1,11 @@
+-- `text::utf8::is_utf8` meets its contract: bytes below 80 are lines of the table, and of others those from each turn's place on are well-formed exactly when all of them are. Assumes nothing.
+use Prim.Native.Nat.{_-_}
 use mathlib.Core.Path.{_∙_}
 use native.Mathlib.Omega.{arith}
-use Prim.Native.Nat.{_-_}
 use lib.ListN.{length}
 use borrow.Author.Needs.{needs}
 use Rattle.text.specs.Code.Sequence.{Passed}
-use Rattle.text.proofs.Bytes.{ascii, stays, further, turn-on, turn-bad, at-end}
+use Rattle.text.proofs.Bytes.{ascii, further, turn-on, turn-bad, at-end}
 use Rattle.text.proofs.utf8.is_utf8.Statement.{statement}
 use Rattle.text.proofs.utf8.is_utf8.Tie as tie
 
@@ -42,13 +43,17 @@ loop-less : tie.Need-loop-less Inv-loop μ-loop
 loop-less c = search (needs, turn-on)
 
 loop-again : tie.Need-loop-again Inv-loop μ-loop
-loop-again c = let e = c .before .before .before in further _ _ _ _ (further _ _ _ _ (e .before .before .loop .inv) (turn-on _ _ _ (e .before .loop-test .taken) (e .sequence-at .ensures) (c .before .before .if2 .left))) (c .past-ascii2 .ensures)
+loop-again c = let e = c .before .before .before in
+    let p = turn-on _ _ _ (e .before .loop-test .taken) (e .sequence-at .ensures) (c .before .before .if2 .left) in
+    further _ _ _ _ (further _ _ _ _ (e .before .before .loop .inv) p) (c .past-ascii2 .ensures)
 
 loop-less-2 : tie.Need-loop-less-2 Inv-loop μ-loop
 loop-less-2 c = search (needs, turn-on)
 
 loop-again-2 : tie.Need-loop-again-2 Inv-loop μ-loop
-loop-again-2 c = let e = c .before .before in further _ _ _ _ (e .before .before .loop .inv) (turn-on _ _ _ (e .before .loop-test .taken) (e .sequence-at .ensures) (c .before .if2 .left))
+loop-again-2 c = let e = c .before .before in
+    let p = turn-on _ _ _ (e .before .loop-test .taken) (e .sequence-at .ensures) (c .before .if2 .left) in
+    further _ _ _ _ (e .before .before .loop .inv) p
 
 returns-3 : tie.Need-returns-3 Inv-loop μ-loop
 returns-3 c = at-end _ _ (c .loop-test .left) ∙ c .before .loop .inv .same

@@ -1,5 +1,4 @@
 -- `text::utf8::three` meets its contract: the tests of the two bytes that follow. Assumes nothing.
-use mathlib.Core.Path.{refl}
 use native.Mathlib.Omega.{arith}
 use borrow.Author.Needs.{needs}
 use Rattle.text.proofs.Bytes.{row-short, row-tested, last-test, next-test}
@@ -37,7 +36,7 @@ returns-2 : tie.Need-returns-2
 returns-2 c =
     let s = c .before .before .before .before .before .before .before .args .s .now in
     let at = c .before .before .before .before .before .before .before .args .at in
-    row-tested s at _ _ _ (omega arith) (next-test s at 1 2 _ _ _ _ (c .before .before .before .holds .ensures) (last-test s at 2 _ _ (c .before .holds2 .ensures) (omega arith)) (omega arith) refl) (c .counted .ensures)
+    row-tested s at _ _ _ (omega arith) (next-test s at 1 _ _ _ _ (c .before .before .before .holds .ensures) (last-test s at 2 _ _ (c .before .holds2 .ensures) (omega arith)) (omega arith)) (c .counted .ensures)
 
 pub three-spec : {M : Type 1} → statement M
 three-spec =
