@@ -1,112 +1,160 @@
--- Laws of the UTF-8 check: one for each way that a byte is taken, the loop's turn and end, and the highest byte. Assumes nothing.
+-- Laws of the UTF-8 check: a row of the table, byte by byte; the loop's turn and end; the highest byte. Assumes nothing.
 use Prim.Native.Nat.{ℕ, zero, suc, _+_, _-_, _<_, _≤_}
-use mathlib.Core.Path.{_≡_, refl, ap, _∙_}
-use mathlib.Core.Bool.{true, false}
+use mathlib.Core.Path.{_≡_, refl, sym, _∙_}
+use mathlib.Core.Bool.{Bool, true, false, _&&_}
 use mathlib.Core.List.{List, [], _∷_}
 use native.Mathlib.Omega.{arith}
 use native.Mathlib.Numerals.{add-one}
-use lib.Dec.{eqb, eqb·suc-zero}
-use lib.ListN.{length, getD, take, drop, drop-of-length-le}
+use lib.ListN.{length, getD, take, drop, drop-of-length-le, length-drop}
 use lib.Seq.{drop-cons, drop-drop}
 use borrow.Author.Count.{below-more}
-use Rattle.ground.specs.Choice.{Range, _‥_}
-use Rattle.ground.proofs.Tests.{inside, below, above}
-use Rattle.text.specs.Unicode.{follow, table37, restGood}
-use Rattle.text.specs.Code.Step.{wantOf, tails, wantsOf, wants, followOf, after, Passed}
-use Rattle.text.specs.declared.utf8.Want.{Want}
-use Rattle.text.specs.declared.utf8.Step.{Step}
-use Rattle.text.specs.declared.utf8.Step.the-variants.{Next, Bad}
-use Rattle.text.proofs.Table.{line1}
+use Rattle.ground.specs.Choice.{pick, both, Range, within}
+use Rattle.ground.proofs.Tests.{both-false, both-second, and-both, apart}
+use Rattle.text.specs.Unicode.{Follow, nothing, ranges, onFollow, follow, table37, restGood}
+use Rattle.text.specs.Code.Sequence.{begins, onRow, Row, rowLength, Passed}
+use Rattle.text.proofs.Table.{first-line}
 
-tails-are : (n : ℕ) → wantsOf n (0x80 ‥ 0xBF) ≡ tails n
-unfolding wantsOf tails
-tails-are zero = refl
-tails-are (suc n) = refl
+-- what is left of a list that has a byte at i
+from : (s : List ℕ) (i : ℕ) → i < length s → drop i s ≡ getD s i 0 ∷ drop (i + 1) s
+from s i h = rw (add-one i, drop-cons s i 0 h)
 
--- a first byte
-pub begun : (r : Step) (x n : ℕ) (g : Range) (xs : List ℕ) → n ≡ 0 → followOf r ≡ follow table37 x → after r xs ≡ restGood table37 (x ∷ xs) (wantsOf n g)
-unfolding restGood wantsOf
-begun Bad x n g xs z e = rw (z, ← e)
-begun (Next w) x n g xs z e = rw (z, ← e)
+-- fewer bytes than ranges
+too-few : (rs : List Range) (xs : List ℕ) → length xs < length rs → begins rs xs ≡ false
+unfolding begins
+too-few [] xs h = absurd (omega arith)
+too-few (r ∷ rs) [] h = refl
+too-few (r ∷ rs) (x ∷ xs) h = rw (too-few rs xs (omega arith)) (both-false (within r x))
 
--- a byte of a sequence
-module _ (x lo hi : ℕ) (xs : List ℕ) where
-  pub under : (n : ℕ) → (n ≡ 0 → ⊥) → x < lo → false ≡ restGood table37 (x ∷ xs) (wantsOf n (lo ‥ hi))
-  unfolding restGood wantsOf
-  under zero some h = absurd (some refl)
-  under (suc n) some h = rw (below lo hi x h)
+both-true : (p : Bool) → p ≡ both p true
+both-true true = refl
+both-true false = refl
 
-  pub over : (n : ℕ) → (n ≡ 0 → ⊥) → hi < x → false ≡ restGood table37 (x ∷ xs) (wantsOf n (lo ‥ hi))
-  unfolding restGood wantsOf
-  over zero some h = absurd (some refl)
-  over (suc n) some h = rw (above lo hi x h)
+-- what the code's tests of the bytes after a first one, which stands at `at`, tell of its row
+module _ (s : List ℕ) (at : ℕ) where
+  pub last-test : (i : ℕ) (r : Range) (p : Bool) → p ≡ within r (getD s (at + i) 0) → at + i < length s → p ≡ begins (r ∷ []) (drop (at + i) s)
+  unfolding begins
+  last-test i r p e h = rw (from s (at + i) h, ← e) (both-true p)
 
-  pub fits : (n : ℕ) (r : Step) → (n ≡ 0 → ⊥) → lo ≤ x → x ≤ hi → r ≡ Next (wantOf (n - 1) 0x80 0xBF) → after r xs ≡ restGood table37 (x ∷ xs) (wantsOf n (lo ‥ hi))
-  unfolding restGood wantsOf
-  fits zero r some h k f = absurd (some refl)
-  fits (suc n) r some h k f =
-      let e : suc n - 1 ≡ n = omega arith in
-      rw (f, inside lo hi x h k, e) (ap (λ (rs : List Range). restGood table37 xs rs) (tails-are n))
+  pub next-test : (i : ℕ) (r : Range) (rs : List Range) (p q : Bool) → p ≡ within r (getD s (at + i) 0) → q ≡ begins rs (drop (at + (i + 1)) s) → at + i < length s
+      → (p && q) ≡ begins (r ∷ rs) (drop (at + i) s)
+  unfolding begins
+  next-test i r rs p q e f h =
+      let k : at + (i + 1) ≡ at + i + 1 = omega arith in
+      rw (from s (at + i) h, ← e, ← k, ← f) (and-both p q)
 
--- one turn of the loop over the bytes
-module _ (s : List ℕ) (i : ℕ) (want : Want) (r : Step) (h : i < length s)
-    (f : (xs : List ℕ) → after r xs ≡ restGood table37 (getD s i 0 ∷ xs) (wants want)) where
-  pub turn-next : (next : Want) → r ≡ Next next → restGood table37 (drop (i + 1) s) (wants next) ≡ restGood table37 (drop i s) (wants want)
-  turn-next next e = rw (add-one i, drop-cons s i 0 h) (rw e at (f (drop (suc i) s)))
+  pub row-tested : (rs : List Range) (p : Bool) (n : ℕ) → at < length s → p ≡ begins rs (drop (at + 1) s) → n ≡ pick p (suc (length rs)) 0 → Row s at (ranges rs) n
+  unfolding onRow
+  row-tested rs p n h e t = record { begun = h; counted = rw (← e) t }
 
-  pub turn-bad : r ≡ Bad → false ≡ restGood table37 (drop i s) (wants want)
-  turn-bad e = rw (drop-cons s i 0 h) (rw e at (f (drop (suc i) s)))
+  pub row-short : (rs : List Range) → at < length s → length s - at < suc (length rs) → Row s at (ranges rs) 0
+  unfolding onRow
+  row-short rs h k = record { begun = h; counted = rw (too-few rs (drop (at + 1) s) (simp length-drop (omega arith))) }
 
--- at the end nothing may be wanted
-ended : (n : ℕ) (g : Range) → eqb n 0 ≡ restGood table37 [] (wantsOf n g)
-unfolding restGood wantsOf
-ended zero g = refl
-ended (suc n) g = eqb·suc-zero n
+-- ranges that are wanted: bytes that begin with one in each, and then whole rows
+both-pick : (w b g : Bool) → both w (pick b g false) ≡ pick (both w b) g false
+both-pick true b g = refl
+both-pick false b g = refl
 
-pub at-end : (s : List ℕ) (i n : ℕ) (g : Range) → length s ≤ i → eqb n 0 ≡ restGood table37 (drop i s) (wantsOf n g)
-at-end s i n g h = rw (drop-of-length-le s h) (ended n g)
+wanted : (rs : List Range) (xs : List ℕ) → restGood table37 xs rs ≡ pick (begins rs xs) (restGood table37 (drop (length rs) xs) []) false
+unfolding begins restGood
+wanted [] xs = refl
+wanted (r ∷ rs) [] = refl
+wanted (r ∷ rs) (x ∷ xs) = rw (wanted rs xs) (both-pick (within r x) (begins rs xs) (restGood table37 (drop (length rs) xs) []))
+
+enough : (rs : List Range) (xs : List ℕ) → begins rs xs ≡ true → length rs ≤ length xs
+unfolding begins
+enough [] xs e = omega arith
+enough (r ∷ rs) [] e = absurd (apart e)
+enough (r ∷ rs) (x ∷ xs) e = omega (arith, enough rs xs (both-second (within r x) (begins rs xs) e))
+
+-- a sequence was taken, or there is none
+module _ (x : ℕ) (xs : List ℕ) where
+  abbrev Goes : ℕ → Bool → Type 0
+  Goes n good = (n ≤ suc (length xs)) × (restGood table37 (drop n (x ∷ xs)) [] ≡ good)
+
+  row-taken : (b : Bool) (rs : List Range) → begins rs xs ≡ b → (pick b (suc (length rs)) 0 ≡ 0 → ⊥) → Goes (pick b (suc (length rs)) 0) (restGood table37 xs rs)
+  row-taken true rs e some = (omega (arith, enough rs xs e), rw (wanted rs xs, e))
+  row-taken false rs e some = absurd (some refl)
+
+  taken : (f : Follow) → (onRow f xs ≡ 0 → ⊥) → Goes (onRow f xs) (onFollow f (λ rs. restGood table37 xs rs))
+  unfolding onRow
+  taken nothing some = absurd (some refl)
+  taken (ranges rs) some = row-taken (begins rs xs) rs refl some
+
+  row-none : (b : Bool) (rs : List Range) → begins rs xs ≡ b → pick b (suc (length rs)) 0 ≡ 0 → false ≡ restGood table37 xs rs
+  row-none true rs e z = absurd (omega arith)
+  row-none false rs e z = rw (wanted rs xs, e)
+
+  none : (f : Follow) → onRow f xs ≡ 0 → false ≡ onFollow f (λ rs. restGood table37 xs rs)
+  unfolding onRow
+  none nothing z = refl
+  none (ranges rs) z = row-none (begins rs xs) rs refl z
+
+pub stays : (s : List ℕ) (at : ℕ) → at ≤ length s → Passed s at at
+stays s at h = record { beyond = omega arith; inside = h; same = refl }
+
+pub further : (s : List ℕ) (a b c : ℕ) → Passed s a b → Passed s b c → Passed s a c
+further s a b c p q = record { beyond = omega (arith, p .beyond, q .beyond); inside = q .inside; same = q .same ∙ p .same }
+
+-- one turn of the loop over the sequences
+module _ (s : List ℕ) (i n : ℕ) (h : i < length s) (e : n ≡ rowLength (drop i s)) where
+  pub turn-on : (n ≡ 0 → ⊥) → Passed s i (i + n)
+  unfolding restGood rowLength
+  turn-on some =
+      let d = from s i h in
+      let f = rw d at e in
+      let t = taken (getD s i 0) (drop (i + 1) s) (follow table37 (getD s i 0)) (rw f at some) in
+      record {
+        beyond = omega arith;
+        inside = omega (arith, f, t .0, length-drop (i + 1) s);
+        same = rw (← drop-drop n i s, d, f) (t .1);
+      }
+
+  pub turn-bad : n ≡ 0 → false ≡ restGood table37 (drop i s) []
+  unfolding restGood rowLength
+  turn-bad z =
+      let d = from s i h in
+      rw d (none (getD s i 0) (drop (i + 1) s) (follow table37 (getD s i 0)) (sym (rw d at e) ∙ z))
+
+-- past the last sequence
+pub at-end : (s : List ℕ) (i : ℕ) → length s ≤ i → true ≡ restGood table37 (drop i s) []
+unfolding restGood
+at-end s i h = rw (drop-of-length-le s h)
 
 -- no byte before i is above `top`, nor is the next above t
 pub top-turn : (s : List ℕ) (i top t : ℕ) → ((k : ℕ) → k < i → getD s k 0 ≤ top) → top ≤ t → getD s i 0 ≤ t → (k : ℕ) → k < i + 1 → getD s k 0 ≤ t
 top-turn s i top t inv h l = below-more _ _ (λ k b. omega (arith, inv k b)) l
 
--- bytes below 80 where nothing is wanted, before any others
+-- bytes below 80, before any others
 past-ascii : (n : ℕ) (xs : List ℕ) (top : ℕ) → ((k : ℕ) → k < length (take n xs) → getD (take n xs) k 0 ≤ top) → top < 0x80 → restGood table37 (drop n xs) [] ≡ restGood table37 xs []
-unfolding restGood wantsOf
+unfolding restGood
 past-ascii zero xs top f h = refl
 past-ascii (suc n) [] top f h = refl
 past-ascii (suc n) (x ∷ xs) top f h =
     let a : x < 0x80 = omega (arith, f 0 (omega arith)) in
-    rw (← line1 x (Next (wantOf 0 0 0)) refl a) (past-ascii n xs top (λ k b. f (suc k) (omega arith)) h)
+    rw (← first-line x a) (past-ascii n xs top (λ k b. f (suc k) (omega arith)) h)
 
 -- going on by a block of n bytes below 80, or by one
-module _ (s : List ℕ) (at i : ℕ) (p : Passed s [] at i) where
-  pub block-passed : (n k top : ℕ) → ((j : ℕ) → j < length (take k (drop i s)) → getD (take k (drop i s)) j 0 ≤ top) → i + n ≤ length s → k ≡ n → top < 0x80 → Passed s [] at (i + n)
+module _ (s : List ℕ) (at i : ℕ) (p : Passed s at i) where
+  pub block-passed : (n k top : ℕ) → ((j : ℕ) → j < length (take k (drop i s)) → getD (take k (drop i s)) j 0 ≤ top) → i + n ≤ length s → k ≡ n → top < 0x80 → Passed s at (i + n)
   block-passed n k top f l e h = record {
     beyond = omega (arith, p .beyond);
     inside = l;
     same = rw (← drop-drop n i s) (past-ascii n (drop i s) top (rw e at f) h) ∙ p .same;
   }
 
-  pub byte-passed : i < length s → getD s i 0 < 0x80 → Passed s [] at (i + 1)
-  unfolding restGood wantsOf
+  pub byte-passed : i < length s → getD s i 0 < 0x80 → Passed s at (i + 1)
+  unfolding restGood
   byte-passed l h = record {
     beyond = omega (arith, p .beyond);
     inside = omega arith;
-    same = turn-next s i (wantOf 0 0 0) (Next (wantOf 0 0 0)) l (λ xs. begun (Next (wantOf 0 0 0)) (getD s i 0) 0 (0 ‥ 0) xs refl (line1 (getD s i 0) (Next (wantOf 0 0 0)) refl h)) (wantOf 0 0 0) refl ∙ p .same;
+    same = rw (← p .same, from s i l, ← first-line (getD s i 0) h);
   }
-
-pub stays : (s : List ℕ) (rs : List Range) (at : ℕ) → at ≤ length s → Passed s rs at at
-stays s rs at h = record { beyond = omega arith; inside = h; same = refl }
-
-pub none-wanted : (s : List ℕ) (n : ℕ) (g : Range) (at r : ℕ) → n ≡ 0 → Passed s [] at r → Passed s (wantsOf n g) at r
-unfolding wantsOf
-none-wanted s n g at r z p = rw z p
 
 -- bytes that each are a line of the table by themselves
 pub ascii : (s : List ℕ) (top : ℕ) → ((k : ℕ) → k < length s → getD s k 0 ≤ top) → top < 0x80 → true ≡ restGood table37 s []
-unfolding restGood wantsOf
+unfolding restGood
 ascii [] top f h = refl
 ascii (x ∷ xs) top f h =
     let a : x < 0x80 = omega (arith, f 0 (omega arith)) in
-    rw (← line1 x (Next (wantOf 0 0 0)) refl a) (ascii xs top (λ k b. f (suc k) (omega arith)) h)
+    rw (← first-line x a) (ascii xs top (λ k b. f (suc k) (omega arith)) h)

@@ -1,16 +1,18 @@
--- What Table 3-7 says of a first byte: one law for each line, by a test that antt computes at each byte of the line. Assumes nothing.
-use Prim.Native.Nat.{ℕ, _+_, _≤_, _<_, zero-le}
+-- What Table 3-7 says of a first byte: one law for all lines, by a test that antt computes at each first byte of a line. Assumes nothing.
+use Prim.Native.Nat.{ℕ, suc, _+_, _-_, _≤_, _<_, zero-le}
 use mathlib.Core.Path.{_≡_, refl, ap}
 use mathlib.Core.Bool.{Bool, true, false}
 use mathlib.Core.List.{List, [], _∷_}
+use native.Mathlib.Omega.{arith}
+use native.Mathlib.Numerals.{add-one}
 use lib.Dec.{T, eqb, eqb→eq}
+use lib.ListN.{length, getD, drop}
+use lib.Seq.{drop-cons}
 use Rattle.ground.specs.Choice.{both, Range, _‥_}
 use Rattle.ground.proofs.Tests.{both-left, both-right}
 use Rattle.ground.proofs.Between.{passes, between}
 use Rattle.text.specs.Unicode.{Follow, nothing, ranges, follow, table37}
-use Rattle.text.specs.Code.Step.{wantOf, tails, wantsOf, followOf}
-use Rattle.text.specs.declared.utf8.Step.{Step}
-use Rattle.text.specs.declared.utf8.Step.the-variants.{Next}
+use Rattle.text.specs.Code.Sequence.{begins, onRow, Row, rowLength}
 
 abbrev sameRange : Range → Range → Bool
 sameRange (a ‥ b) (p ‥ q) = both (eqb a p) (eqb b q)
@@ -52,51 +54,24 @@ same-is (ranges a) (ranges b) t = ap ranges (ranges-are a b t)
 row : (e : Follow) (lo n x : ℕ) → T (passes (λ y. same e (follow table37 y)) lo n) → lo ≤ x → x < lo + n → e ≡ follow table37 x
 row e lo n x t h k = same-is e (follow table37 x) (between (λ y. same e (follow table37 y)) n lo t x h k)
 
-module _ (x : ℕ) (r : Step) where
-  pub line1 : r ≡ Next (wantOf 0 0 0) → x < 0x80 → followOf r ≡ follow table37 x
-  unfolding follow table37 wantsOf tails
-  line1 e k = rw e (row _ 0 0x80 x tt zero-le k)
+-- bytes that were held to what follows a first byte, where this is what follows each one from lo to hi: a line of the table, or a gap between two
+pub line : (lo hi : ℕ) {s : List ℕ} {at n : ℕ} {f : Follow} → Row s at f n → T (passes (λ y. same f (follow table37 y)) lo (suc hi - lo)) → lo ≤ getD s at 0 → getD s at 0 ≤ hi
+    → n ≡ rowLength (drop at s)
+unfolding rowLength
+line lo hi {s} {at} {n} {f} r t a b =
+    rw (drop-cons s at 0 (r .begun), ← row f lo (suc hi - lo) (getD s at 0) t a (omega arith)) (rw (add-one at) at (r .counted))
 
-  pub line2 : r ≡ Next (wantOf 1 0x80 0xBF) → 0xC2 ≤ x → x < 0xE0 → followOf r ≡ follow table37 x
-  unfolding follow table37 wantsOf tails
-  line2 e h k = rw e (row _ 0xC2 30 x tt h k)
+-- a line of one byte, and no line
+module _ (s : List ℕ) (at : ℕ) (h : at < length s) where
+  pub one-byte : Row s at (ranges []) 1
+  unfolding onRow begins
+  one-byte = record { begun = h; counted = refl }
 
-  pub line3 : r ≡ Next (wantOf 2 0xA0 0xBF) → x ≡ 0xE0 → followOf r ≡ follow table37 x
-  unfolding follow table37 wantsOf tails
-  line3 e h = rw (e, h)
+  pub no-line : Row s at nothing 0
+  unfolding onRow
+  no-line = record { begun = h; counted = refl }
 
-  pub line4 : r ≡ Next (wantOf 2 0x80 0xBF) → 0xE1 ≤ x → x < 0xED → followOf r ≡ follow table37 x
-  unfolding follow table37 wantsOf tails
-  line4 e h k = rw e (row _ 0xE1 12 x tt h k)
-
-  pub line5 : r ≡ Next (wantOf 2 0x80 0x9F) → x ≡ 0xED → followOf r ≡ follow table37 x
-  unfolding follow table37 wantsOf tails
-  line5 e h = rw (e, h)
-
-  pub line6 : r ≡ Next (wantOf 2 0x80 0xBF) → 0xEE ≤ x → x < 0xF0 → followOf r ≡ follow table37 x
-  unfolding follow table37 wantsOf tails
-  line6 e h k = rw e (row _ 0xEE 2 x tt h k)
-
-  pub line7 : r ≡ Next (wantOf 3 0x90 0xBF) → x ≡ 0xF0 → followOf r ≡ follow table37 x
-  unfolding follow table37 wantsOf tails
-  line7 e h = rw (e, h)
-
-  pub line8 : r ≡ Next (wantOf 3 0x80 0xBF) → 0xF1 ≤ x → x < 0xF4 → followOf r ≡ follow table37 x
-  unfolding follow table37 wantsOf tails
-  line8 e h k = rw e (row _ 0xF1 3 x tt h k)
-
-  pub line9 : r ≡ Next (wantOf 3 0x80 0x8F) → x ≡ 0xF4 → followOf r ≡ follow table37 x
-  unfolding follow table37 wantsOf tails
-  line9 e h = rw (e, h)
-
--- 80 to C1, and F5 up, begin no line
-module _ (x : ℕ) where
-  pub no-line : 0x80 ≤ x → x < 0xC2 → nothing ≡ follow table37 x
-  unfolding follow table37
-  no-line = row nothing 0x80 66 x tt
-
-  pub past-lines : 0xF5 ≤ x → x < 0x100 → nothing ≡ follow table37 x
-  unfolding follow table37
-  past-lines = row nothing 0xF5 11 x tt
-
-pub ruleset lines = (line1, line2, line3, line5, line7, line9, no-line)
+-- a byte below 80 is a line by itself
+pub first-line : (x : ℕ) → x < 0x80 → ranges [] ≡ follow table37 x
+unfolding follow table37
+first-line x h = row (ranges []) 0 0x80 x tt zero-le h

@@ -1,64 +1,84 @@
 // Whether bytes are well-formed UTF-8, by the Unicode standard's Table 3-7.
 ghost use mathlib.Core.Path.{_≡_};
-ghost use mathlib.Core.List.{List, [], _∷_};
+ghost use mathlib.Core.List.{[], _∷_};
 ghost use Prim.Native.Nat.{ℕ, _<_, _≤_};
-ghost use lib.ListN.{length, getD};
-ghost use Rattle.text.specs.Unicode.{table37, follow, restGood, utf8};
-ghost use Rattle.text.specs.Code.Step.{wantOf, wants, followOf, after, Passed};
+ghost use lib.ListN.{length, getD, drop};
+ghost use Rattle.ground.specs.Choice.{pick, within};
+ghost use Rattle.text.specs.Unicode.{utf8, ranges};
+ghost use Rattle.text.specs.Code.Sequence.{rangeOf, Row, rowLength, Passed};
 
-// What has to come: `left` bytes, of which the next is from `lo` to `hi` and any other from 80 to BF.
-pub struct Want {
-    pub left: u8,
-    pub lo: u8,
-    pub hi: u8,
+// A column of a line of the table: In(0xA0, 0xBF) is the standard's A0..BF.
+pub struct In(pub u8, pub u8);
+
+impl In {
+    fn holds(self, x: u8) -> bool
+        ensures { λ r. ⌜ r ≡ within (rangeOf self) x ⌝ }
+    {
+        (self.0 <= x) & (x <= self.1)
+    }
 }
 
-pub enum Step {
-    Next(Want),
-    Bad,
-}
-
-fn then(left: u8, lo: u8, hi: u8) -> Step
-    ensures { λ r. ⌜ r ≡ Step.Next (wantOf left lo hi) ⌝ }
+// The Unicode standard's Table 3-7, a line for each of its lines and in its order: the first byte, then of how many bytes the sequence is, with the columns
+// of the second, third and fourth, and behind it the code points. The answer is that number of bytes; 0 where the bytes from `at` on are none of these.
+fn sequence_at(s: &[u8], at: usize) -> usize
+    requires { ⌜ at < length (now s) ⌝ }
+    ensures { λ r. ⌜ r ≡ rowLength (drop at (now (s .entry))) ⌝ }
 {
-    Step::Next(Want { left, lo, hi })
-}
-
-// What has to follow a first byte: a line for each line of the table.
-fn first_byte(x: u8) -> Step
-    ensures { λ r. ⌜ followOf r ≡ follow table37 x ⌝ }
-{
-    match x {
-        0x00..=0x7F => then(0, 0, 0),
-        0xC2..=0xDF => then(1, 0x80, 0xBF),
-        0xE0 => then(2, 0xA0, 0xBF),
-        0xE1..=0xEC => then(2, 0x80, 0xBF),
-        0xED => then(2, 0x80, 0x9F),
-        0xEE..=0xEF => then(2, 0x80, 0xBF),
-        0xF0 => then(3, 0x90, 0xBF),
-        0xF1..=0xF3 => then(3, 0x80, 0xBF),
-        0xF4 => then(3, 0x80, 0x8F),
-        _ => Step::Bad,
+    match s[at] {
+        0x00..=0x7F => 1, // U+0000..U+007F
+        0xC2..=0xDF => two(s, at, In(0x80, 0xBF)), // U+0080..U+07FF
+        0xE0 => three(s, at, In(0xA0, 0xBF), In(0x80, 0xBF)), // U+0800..U+0FFF
+        0xE1..=0xEC => three(s, at, In(0x80, 0xBF), In(0x80, 0xBF)), // U+1000..U+CFFF
+        0xED => three(s, at, In(0x80, 0x9F), In(0x80, 0xBF)), // U+D000..U+D7FF
+        0xEE..=0xEF => three(s, at, In(0x80, 0xBF), In(0x80, 0xBF)), // U+E000..U+FFFF
+        0xF0 => four(s, at, In(0x90, 0xBF), In(0x80, 0xBF), In(0x80, 0xBF)), // U+10000..U+3FFFF
+        0xF1..=0xF3 => four(s, at, In(0x80, 0xBF), In(0x80, 0xBF), In(0x80, 0xBF)), // U+40000..U+FFFFF
+        0xF4 => four(s, at, In(0x80, 0x8F), In(0x80, 0xBF), In(0x80, 0xBF)), // U+100000..U+10FFFF
+        _ => 0,
     }
 }
 
-// What has to come after one byte more.
-fn next_byte(want: Want, x: u8) -> Step
-    ensures { λ r. ⌜ ((xs : List ℕ) → after r xs ≡ restGood table37 (x ∷ xs) (wants want)) ⌝ }
+// The number of bytes of a line whose columns hold, and 0 of one whose do not.
+fn counted(n: usize, hold: bool) -> usize
+    ensures { λ r. ⌜ r ≡ pick hold n 0 ⌝ }
 {
-    let left = want.left;
-    let lo = want.lo;
-    let hi = want.hi;
-    if left == 0 {
-        return first_byte(x);
+    if hold { n } else { 0 }
+}
+
+// A line of two bytes, of which the first stands at `at`: 2 where the next byte is there and in its column, else 0.
+fn two(s: &[u8], at: usize, second: In) -> usize
+    requires { ⌜ at < length (now s) ⌝ }
+    ensures { λ r. ⌜ Row (now (s .entry)) at (ranges (rangeOf second ∷ [])) r ⌝ }
+{
+    if s.len() - at < 2 {
+        return 0;
     }
-    if x < lo {
-        return Step::Bad;
+    counted(2, second.holds(s[at + 1]))
+}
+
+// A line of three bytes, alike.
+fn three(s: &[u8], at: usize, second: In, third: In) -> usize
+    requires { ⌜ at < length (now s) ⌝ }
+    ensures { λ r. ⌜ Row (now (s .entry)) at (ranges (rangeOf second ∷ rangeOf third ∷ [])) r ⌝ }
+{
+    if s.len() - at < 3 {
+        return 0;
     }
-    if hi < x {
-        return Step::Bad;
+    counted(3, second.holds(s[at + 1]) & third.holds(s[at + 2]))
+}
+
+// A line of four bytes, alike.
+fn four(s: &[u8], at: usize, second: In, third: In, fourth: In) -> usize
+    requires { ⌜ at < length (now s) ⌝ }
+    ensures { λ r. ⌜ Row (now (s .entry)) at (ranges (rangeOf second ∷ rangeOf third ∷ rangeOf fourth ∷ [])) r ⌝ }
+{
+    if s.len() - at < 4 {
+        return 0;
     }
-    then(left - 1, 0x80, 0xBF)
+    counted(
+        4,
+        second.holds(s[at + 1]) & third.holds(s[at + 2]) & fourth.holds(s[at + 3]),
+    )
 }
 
 fn greater(x: u8, y: u8) -> u8
@@ -83,7 +103,7 @@ fn highest(s: &[u8]) -> u8
 // Past the bytes below 80, 16 at a time, which the compiler takes at once.
 fn past_blocks(s: &[u8], at: usize) -> usize
     requires { ⌜ at ≤ length (now s) ⌝ }
-    ensures { λ r. ⌜ Passed (now (s .entry)) [] at r ⌝ }
+    ensures { λ r. ⌜ Passed (now (s .entry)) at r ⌝ }
 {
     let mut i = at;
     while 16 <= s.len() - i {
@@ -99,7 +119,7 @@ fn past_blocks(s: &[u8], at: usize) -> usize
 // The place of the next byte that is not below 80.
 fn past_ascii(s: &[u8], at: usize) -> usize
     requires { ⌜ at ≤ length (now s) ⌝ }
-    ensures { λ r. ⌜ Passed (now (s .entry)) [] at r ⌝ }
+    ensures { λ r. ⌜ Passed (now (s .entry)) at r ⌝ }
 {
     let mut i = past_blocks(s, at);
     while i < s.len() {
@@ -111,40 +131,24 @@ fn past_ascii(s: &[u8], at: usize) -> usize
     i
 }
 
-// Where nothing is wanted, bytes below 80 change nothing.
-fn next_place(s: &[u8], at: usize, want: Want) -> usize
-    requires { ⌜ at ≤ length (now s) ⌝ }
-    ensures { λ r. ⌜ Passed (now (s .entry)) (wants want) at r ⌝ }
-{
-    let left = want.left;
-    if left == 0 {
-        return past_ascii(s, at);
-    }
-    at
-}
-
-// Most text is ASCII, which the highest byte tells; of any other, the bytes that are not are taken one after the other, from the first.
+// Most text is ASCII, which the highest byte tells. Any other is taken by whole sequences; after one of a single byte the ASCII that follows is passed at
+// once, and after a longer one nothing is looked for, since text that is not ASCII mostly goes on so.
 pub fn is_utf8(s: &[u8]) -> bool
     ensures { λ r. ⌜ r ≡ utf8 (now (s .entry)) ⌝ }
 {
     if highest(s) < 0x80 {
         return true;
     }
-    let mut want = Want {
-        left: 0,
-        lo: 0,
-        hi: 0,
-    };
-    let mut i = 0;
-    loop {
-        let at = next_place(s, i, want);
-        if s.len() <= at {
-            return want.left == 0;
-        }
-        let Step::Next(next) = next_byte(want, s[at]) else {
+    let mut at = past_ascii(s, 0);
+    while at < s.len() {
+        let n = sequence_at(s, at);
+        if n == 0 {
             return false;
-        };
-        want = next;
-        i = at + 1;
+        }
+        at += n;
+        if n == 1 {
+            at = past_ascii(s, at);
+        }
     }
+    true
 }

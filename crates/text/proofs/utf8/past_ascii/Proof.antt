@@ -1,15 +1,14 @@
 -- `text::utf8::past_ascii` meets its contract: a byte below 80 changes nothing. Assumes nothing.
 use Prim.Native.Nat.{_-_}
-use mathlib.Core.List.{[]}
 use lib.ListN.{length}
 use borrow.Author.Needs.{needs}
-use Rattle.text.specs.Code.Step.{Passed}
+use Rattle.text.specs.Code.Sequence.{Passed}
 use Rattle.text.proofs.Bytes.{byte-passed}
 use Rattle.text.proofs.utf8.past_ascii.Statement.{statement}
 use Rattle.text.proofs.utf8.past_ascii.Tie as tie
 
 abbrev Inv-loop : tie.InvT-loop
-Inv-loop s at i₀ i = Passed s [] at i
+Inv-loop s at i₀ i = Passed s at i
 
 abbrev μ-loop : tie.MeasureT-loop
 μ-loop s at i₀ i = length s - i

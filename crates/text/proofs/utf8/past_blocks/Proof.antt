@@ -1,16 +1,15 @@
 -- `text::utf8::past_blocks` meets its contract: a block whose highest byte is below 80 changes nothing. Assumes nothing.
 use Prim.Native.Nat.{_+_, _-_}
 use native.Mathlib.Omega.{arith}
-use mathlib.Core.List.{[]}
 use lib.ListN.{length}
 use borrow.Author.Needs.{needs}
-use Rattle.text.specs.Code.Step.{Passed}
+use Rattle.text.specs.Code.Sequence.{Passed}
 use Rattle.text.proofs.Bytes.{stays, block-passed}
 use Rattle.text.proofs.utf8.past_blocks.Statement.{statement}
 use Rattle.text.proofs.utf8.past_blocks.Tie as tie
 
 abbrev Inv-loop : tie.InvT-loop
-Inv-loop s at i₀ i = Passed s [] at i
+Inv-loop s at i₀ i = Passed s at i
 
 abbrev μ-loop : tie.MeasureT-loop
 μ-loop s at i₀ i = length s - i
