@@ -1,11 +1,10 @@
 -- A BIGGER TABLE CHANGES NOTHING, SOME TABLE IS BIG ENOUGH, AND NO READING ANSWERS 4. The statements cite only definitions of `specs/`. Assumes nothing.
-use Prim.Native.Nat.{ℕ, _≤_}
+use Prim.Native.Nat.{ℕ}
 use mathlib.Core.Path.{_≡_, sym, _∙_}
 use mathlib.Core.Logic.{⊎-elim}
 use native.Mathlib.Omega.{arith}
 use Rattle.wire.specs.Place.{cursorAt}
 use Rattle.table.specs.Outcome.{Outcome, read, short, refused, numberOf, refusalNumber}
-use Rattle.table.specs.declared.out.Refusal.{Refusal}
 use Rattle.table.specs.declared.out.Refusal.the-variants.{InvalidData, InvalidType, Unsupported, TooDeep, NoRoom, NoDiscriminator}
 use Rattle.reader.specs.Nested.{reading}
 use Rattle.fit.specs.Room.{SameIfRoom, SomeRoom, BiggerTable, SomeTable}

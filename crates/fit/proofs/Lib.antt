@@ -20,3 +20,4 @@ pub mod Needed
 pub mod Bigger
 mod Examples
 mod WithinExamples
+mod RoomExamples

@@ -23,7 +23,7 @@ use Rattle.wire.specs.declared.number.Boolean.the-variants as boolean
 use Rattle.wire.specs.Place.{seekTo}
 use Rattle.wire.specs.Number.{readNumber, readFloat128, readBoolean}
 use Rattle.wire.specs.Dheader.{contentsAt}
-use Rattle.wire.specs.Ends.{keepsEnds, cutAt}
+use Rattle.wire.specs.Ends.{cutAt}
 use Rattle.kinds.specs.Kinds.{alignOf, isPrimitive, opens, unsupportedMember, unsupportedElement}
 use Rattle.text.specs.declared.string.Text.{Text}
 use Rattle.text.specs.declared.string.Text.the-variants as text
@@ -48,7 +48,7 @@ use Rattle.reader.specs.Member.{byLength, elementCount, foundBy, foundValue, fo
 use Rattle.reader.specs.Structure.{absorbs, fmembersOf, mmembersOf}
 use Rattle.reader.specs.Union.{memberBy, discriminatorBy, onSelected, onDiscriminator, chosenOf, membersBy}
 use Rattle.reader.specs.Nested.{isMutable, isStructure, hasEnding, beginningOf, endingBy, endingIf, endingOf, membersIf, membersOf, contentsOf, delimitedOf, bodyBy, bodyOf, openedIf, tooDeepIf, nestedAt}
-use Rattle.fit.proofs.Ends.{finished, wanting, broken, ends-move, by-test}
+use Rattle.fit.proofs.Ends.{finished, broken, ends-move, by-test}
 use Rattle.fit.proofs.Room.{bad-data, bad-type, unsupported, too-deep, no-discriminator, Roomy, Needs, needs-none, needs-read, needs-short, needs-refused, needs-pick, needs-prepend, needs-closed, needs-back, needs-after, needs-room, needs-then, needs-and, needs-end, needs-ending, needs-number, needs-contents}
 
 -- ---- values that open nothing, and lists of them
