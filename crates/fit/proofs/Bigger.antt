@@ -1,11 +1,11 @@
--- A BIGGER TABLE CHANGES NOTHING, SOME TABLE IS BIG ENOUGH, AND NO READING ANSWERS 4. The statements cite only definitions of `specs/`. Assumes nothing.
+-- A BIGGER TABLE CHANGES NOTHING, AND SOME TABLE IS BIG ENOUGH. The statements cite only definitions of `specs/`. Assumes nothing.
 use Prim.Native.Nat.{ℕ}
 use mathlib.Core.Path.{_≡_, sym, _∙_}
 use mathlib.Core.Logic.{⊎-elim}
 use native.Mathlib.Omega.{arith}
 use Rattle.wire.specs.Place.{cursorAt}
-use Rattle.table.specs.Outcome.{Outcome, read, short, refused, numberOf, refusalNumber}
-use Rattle.table.specs.declared.out.Refusal.the-variants.{InvalidData, InvalidType, Unsupported, TooDeep, NoRoom, NoDiscriminator}
+use Rattle.table.specs.Outcome.{Outcome, refused, numberOf, refusalNumber}
+use Rattle.table.specs.declared.out.Refusal.the-variants.{NoRoom}
 use Rattle.reader.specs.Nested.{reading}
 use Rattle.fit.specs.Room.{SameIfRoom, SomeRoom, BiggerTable, SomeTable}
 use Rattle.fit.proofs.Ends.{finished, wanting, broken}
@@ -40,15 +40,3 @@ bigger-table types s set root = needs-same (reading types s set root) (needs-nes
 pub some-table : SomeTable
 unfolding reading
 some-table types s set root = needs-some (reading types s set root) (needs-nested types set 16 s root 0 (cursorAt 0 0))
-
--- 4 is the number of no outcome
-pub never-4 : (o : Outcome) → numberOf o ≡ 4 → ⊥
-unfolding numberOf refusalNumber
-never-4 (read c rs) e = omega arith
-never-4 (short x) e = omega arith
-never-4 (refused InvalidData) e = omega arith
-never-4 (refused InvalidType) e = omega arith
-never-4 (refused Unsupported) e = omega arith
-never-4 (refused TooDeep) e = omega arith
-never-4 (refused NoRoom) e = omega arith
-never-4 (refused NoDiscriminator) e = omega arith
