@@ -104,7 +104,13 @@ module _ (mode : Mode) where
   counting-full zero = refl
   counting-full (suc m) = root-full (nestedAt types set 15) (suc m) (suc m) (elements-full 14 (counting (suc m)) (suc m) 0 (cursorAt 4 0) (suc m - 1 - 1) (omega arith))
 
--- SO NO ONE CAPACITY DOES FOR EVERY MESSAGE
-pub no-one-table : (mode : Mode) (room : ℕ) → (s : List ℕ) × (numberOf (reading types s (settings mode BigEndian Xcdr1) 2 room) ≡ 13)
+-- the claim of `SomeTable` without the capacity's dependence on the data
+abbrev pub OneTable : Type 0
+OneTable = (types : List BookType) (set : Settings) (root : ℕ) → (rows : ℕ) × ((s : List ℕ) → numberOf (reading types s set root rows) ≡ 13 → ⊥)
+
+-- does not hold: whatever the capacity, there is data that asks for more. (Data in the rules may have any numbers for its elements.)
+pub no-one-table : Mode → OneTable → ⊥
 unfolding numberOf refusalNumber
-no-one-table mode room = (counting room, rw (counting-full mode room))
+no-one-table mode one =
+    let o = one types (settings mode BigEndian Xcdr1) 2 in
+    o .1 (counting (o .0)) (rw (counting-full mode (o .0)))
