@@ -60,7 +60,6 @@ pub enum Refusal {
     NotEnoughData = 1,
     InvalidData = 2,
     InvalidType = 3,
-    PidNotFound = 4,
     BadBook = 8,
     BadRoot = 9,
     TooLong = 10,
@@ -77,7 +76,7 @@ impl Refusal {
     pub fn of_number(number: u8) -> Option<Refusal> {
         use Refusal::*;
         [
-            NotEnoughData, InvalidData, InvalidType, PidNotFound, BadBook, BadRoot, TooLong,
+            NotEnoughData, InvalidData, InvalidType, BadBook, BadRoot, TooLong,
             Unsupported, TooDeep, NoRoom, NoDiscriminator, NotText, Unfit,
         ]
         .into_iter()

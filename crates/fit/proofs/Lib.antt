@@ -15,5 +15,9 @@ pub mod Demand3
 pub mod Standing
 pub mod Searches
 pub mod Within
+pub mod Room
+pub mod Needed
+pub mod Bigger
 mod Examples
 mod WithinExamples
+mod RoomExamples

@@ -3,3 +3,4 @@ pub mod Code
 pub mod Check
 pub mod Demand3
 pub mod Within
+pub mod Room

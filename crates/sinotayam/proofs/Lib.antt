@@ -5,5 +5,8 @@ pub mod Spans
 pub mod Packing
 pub mod OneOutcome
 pub mod Demand3
+pub mod Numbers
+pub mod Bigger
+pub mod Never4
 pub mod TextRows
 mod Examples

@@ -5,16 +5,16 @@ use mathlib.Core.List.{List}
 use lib.Dec.{eqb}
 use Rattle.ground.specs.Choice.{pick}
 use Rattle.sinotayam.specs.declared.answer.Status.{Status}
-use Rattle.sinotayam.specs.declared.answer.Status.the-variants.{Read, NotEnoughData, InvalidData, InvalidType, PidNotFound, BadBook, BadRoot, TooLong, Unsupported, TooDeep, NoRoom, NoDiscriminator, NotText, Unfit}
+use Rattle.sinotayam.specs.declared.answer.Status.the-variants.{Read, NotEnoughData, InvalidData, InvalidType, BadBook, BadRoot, TooLong, Unsupported, TooDeep, NoRoom, NoDiscriminator, NotText, Unfit}
 use Rattle.sinotayam.specs.declared.answer.Answer.{Answer}
 use Rattle.sinotayam.specs.Answer.{codeOf, Result, Settled}
 
 -- the answer with a number
 answerOf : ℕ → Status
 answerOf k =
-    pick (eqb k 0) Read (pick (eqb k 1) NotEnoughData (pick (eqb k 2) InvalidData (pick (eqb k 3) InvalidType (pick (eqb k 4) PidNotFound
+    pick (eqb k 0) Read (pick (eqb k 1) NotEnoughData (pick (eqb k 2) InvalidData (pick (eqb k 3) InvalidType
     (pick (eqb k 8) BadBook (pick (eqb k 9) BadRoot (pick (eqb k 10) TooLong (pick (eqb k 11) Unsupported (pick (eqb k 12) TooDeep
-    (pick (eqb k 13) NoRoom (pick (eqb k 14) NoDiscriminator (pick (eqb k 15) NotText Unfit))))))))))))
+    (pick (eqb k 13) NoRoom (pick (eqb k 14) NoDiscriminator (pick (eqb k 15) NotText Unfit)))))))))))
 
 answer-back : (n : Status) → answerOf (codeOf n) ≡ n
 unfolding answerOf codeOf
@@ -22,7 +22,6 @@ answer-back Read = refl
 answer-back NotEnoughData = refl
 answer-back InvalidData = refl
 answer-back InvalidType = refl
-answer-back PidNotFound = refl
 answer-back BadBook = refl
 answer-back BadRoot = refl
 answer-back TooLong = refl
@@ -40,8 +39,10 @@ one-number m n e = sym (answer-back m) ∙ ap answerOf e ∙ answer-back n
 same-fields : (m n : Status) (j k : ℕ) → m ≡ n → j ≡ k → _≡_ {A = Answer} (record { status = m; rows = j }) (record { status = n; rows = k })
 same-fields m n j k e f = rw (e, f)
 
+-- nor do two that tell of as many rows
+pub one-answer : (q r : Answer) → codeOf (q .status) ≡ codeOf (r .status) → q .rows ≡ r .rows → q ≡ r
+one-answer q r e f = same-fields (q .status) (r .status) (q .rows) (r .rows) (one-number (q .status) (r .status) e) f
+
 -- two outcomes that the promise of a reading call allows are the same
 pub one-outcome : (w : Result) (t u v : List ℕ) (q r : Answer) → Settled w t u q → Settled w t v r → (q ≡ r) × (u ≡ v)
-one-outcome w t u v q r d e =
-    let n : q .status ≡ r .status = one-number (q .status) (r .status) (d .number ∙ sym (e .number)) in
-    (same-fields (q .status) (r .status) (q .rows) (r .rows) n (d .count ∙ sym (e .count)), d .table ∙ sym (e .table))
+one-outcome w t u v q r d e = (one-answer q r (d .number ∙ sym (e .number)) (d .count ∙ sym (e .count)), d .table ∙ sym (e .table))

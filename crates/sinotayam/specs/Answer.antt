@@ -9,16 +9,15 @@ use Rattle.table.specs.declared.rows.Row.{Row}
 use Rattle.table.specs.Rows.{width, words}
 use Rattle.table.specs.Outcome.{Outcome, numberOf, rowsOf}
 use Rattle.sinotayam.specs.declared.answer.Status.{Status}
-use Rattle.sinotayam.specs.declared.answer.Status.the-variants.{Read, NotEnoughData, InvalidData, InvalidType, PidNotFound, BadBook, BadRoot, TooLong, Unsupported, TooDeep, NoRoom, NoDiscriminator, NotText, Unfit}
+use Rattle.sinotayam.specs.declared.answer.Status.the-variants.{Read, NotEnoughData, InvalidData, InvalidType, BadBook, BadRoot, TooLong, Unsupported, TooDeep, NoRoom, NoDiscriminator, NotText, Unfit}
 use Rattle.sinotayam.specs.declared.answer.Answer.{Answer}
 
--- "Numbers given back"
+-- "Numbers given back"; order 13 takes 4 "out of the table of numbers"
 unfoldable pub codeOf : Status → ℕ
 codeOf Read = 0
 codeOf NotEnoughData = 1
 codeOf InvalidData = 2
 codeOf InvalidType = 3
-codeOf PidNotFound = 4
 codeOf BadBook = 8
 codeOf BadRoot = 9
 codeOf TooLong = 10

@@ -3,3 +3,4 @@ pub mod Entry
 pub mod Prepared
 pub mod Text
 pub mod Demand3
+pub mod Room

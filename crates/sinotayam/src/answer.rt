@@ -5,13 +5,12 @@ ghost use Rattle.sinotayam.specs.Answer.{codeOf, refusedBy, Settled};
 use table::out::Refusal;
 use table::rows::clear_after;
 
-// Document 01's "Numbers given back".
+// Document 01's "Numbers given back", without 4, which no call gives back.
 pub enum Status {
     Read,
     NotEnoughData,
     InvalidData,
     InvalidType,
-    PidNotFound,
     BadBook,
     BadRoot,
     TooLong,
@@ -38,7 +37,6 @@ impl Status {
             Status::NotEnoughData => 1,
             Status::InvalidData => 2,
             Status::InvalidType => 3,
-            Status::PidNotFound => 4,
             Status::BadBook => 8,
             Status::BadRoot => 9,
             Status::TooLong => 10,

@@ -42,9 +42,6 @@ enum-told-12 c = search needs
 enum-told-13 : tie.Need-enum-told-13
 enum-told-13 c = search needs
 
-enum-told-14 : tie.Need-enum-told-14
-enum-told-14 c = search needs
-
 returns : tie.Need-returns
 unfolding codeOf
 returns c = rw (c .enum-told .given .1)
@@ -97,10 +94,6 @@ returns-13 : tie.Need-returns-13
 unfolding codeOf
 returns-13 c = rw (c .enum-told13 .given .1)
 
-returns-14 : tie.Need-returns-14
-unfolding codeOf
-returns-14 c = rw (c .enum-told14 .given .1)
-
 pub code-spec : {M : Type 1} → statement M
 code-spec =
     tie.close
@@ -118,7 +111,6 @@ code-spec =
     enum-told-11
     enum-told-12
     enum-told-13
-    enum-told-14
     returns
     returns-2
     returns-3
@@ -131,5 +123,4 @@ code-spec =
     returns-10
     returns-11
     returns-12
-    returns-13
-    returns-14)
+    returns-13)

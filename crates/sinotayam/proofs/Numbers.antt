@@ -1,0 +1,37 @@
+-- Laws of the table of numbers. Assumes nothing.
+use Prim.Native.Nat.{ℕ, _<_}
+use mathlib.Core.Path.{_≡_, refl}
+use mathlib.Core.Bool.{true, false}
+use lib.Dec.{eqb, ltb}
+use borrow.Author.Tests.{eqb-false, ltb-true}
+use Rattle.sinotayam.specs.declared.answer.Status.{Status}
+use Rattle.sinotayam.specs.declared.answer.Status.the-variants.{Read, NotEnoughData, InvalidData, InvalidType, BadBook, BadRoot, TooLong, Unsupported, TooDeep, NoRoom, NoDiscriminator, NotText, Unfit}
+use Rattle.sinotayam.specs.Answer.{codeOf}
+use Rattle.sinotayam.specs.Room.{Listed}
+
+-- what is said of each number of the table: it is not 4, and it is a byte
+pub record NotFour (n : ℕ) : Type 0 where
+  pub other : n ≡ 4 → ⊥
+  pub small : n < 256
+
+by-tests : (n : ℕ) → eqb n 4 ≡ false → ltb n 256 ≡ true → NotFour n
+by-tests n e f = record { other = eqb-false n 4 e; small = ltb-true n 256 f }
+
+status-not-four : (n : Status) → NotFour (codeOf n)
+unfolding codeOf
+status-not-four Read = by-tests 0 refl refl
+status-not-four NotEnoughData = by-tests 1 refl refl
+status-not-four InvalidData = by-tests 2 refl refl
+status-not-four InvalidType = by-tests 3 refl refl
+status-not-four BadBook = by-tests 8 refl refl
+status-not-four BadRoot = by-tests 9 refl refl
+status-not-four TooLong = by-tests 10 refl refl
+status-not-four Unsupported = by-tests 11 refl refl
+status-not-four TooDeep = by-tests 12 refl refl
+status-not-four NoRoom = by-tests 13 refl refl
+status-not-four NoDiscriminator = by-tests 14 refl refl
+status-not-four NotText = by-tests 15 refl refl
+status-not-four Unfit = by-tests 16 refl refl
+
+pub listed-not-four : {n : ℕ} → Listed n → NotFour n
+listed-not-four l = rw (← l .1) (status-not-four (l .0))
