@@ -12,7 +12,8 @@ use Rattle.book.specs.Types.{BookType, typeCount, typesOf, typeNo}
 use Rattle.book.specs.Places.{typeAt, typesBy, PlaceOf, indexCount, indexed}
 use Rattle.book.specs.Rules.{bookOk}
 use Rattle.book.proofs.Good.{count-good, index-good}
-use Rattle.fit.specs.Fit.{Clause, checkClauses}
+use Rattle.fit.specs.Fit.{Clause}
+use Rattle.fit.specs.Ids.{clausesFor}
 use Rattle.fit.specs.Check.{checkOf}
 use Rattle.fit.specs.Code.Check.{chainOf, chainsOf, Measured, fits}
 
@@ -31,13 +32,13 @@ module _ (clauses : List Clause) (b index : List ℕ) (root p kind : ℕ) (o : B
       rw (kind, own)
 
 -- "Otherwise 8, 9, then 16."
-module _ (b : List ℕ) (root : ℕ) (good : Bool) (ok : good ≡ bookOk b) where
-  pub check-book : not good ≡ true → 8 ≡ checkOf b root
+module _ (b : List ℕ) (root : ℕ) (onlyXcdr2 good : Bool) (ok : good ≡ bookOk b) where
+  pub check-book : not good ≡ true → 8 ≡ checkOf b root onlyXcdr2
   unfolding checkOf
   check-book h = rw (← ok, not-true good h)
 
   module _ (fine : not good ≡ false) (n : ℕ) (count : n ≡ typeCount b) where
-    pub check-root : n ≤ root → 9 ≡ checkOf b root
+    pub check-root : n ≤ root → 9 ≡ checkOf b root onlyXcdr2
     unfolding checkOf
     check-root h = rw (← ok, not-false good fine, ← count, le-ltb root n h)
 
@@ -46,17 +47,17 @@ module _ (b : List ℕ) (root : ℕ) (good : Bool) (ok : good ≡ bookOk b) wher
 
     -- the types of the book are those that its whole index finds
     module _ (low : root < n) (l u : List ℕ) (k : ℕ) (long : length l ≡ 64) (all : k ≡ indexCount b (length l)) (written : u ≡ indexed b l)
-        (r : Bool) (is : r ≡ fits checkClauses (typesBy b (take (k - 0) u)) root) where
-      same : r ≡ fits checkClauses (typesOf b) root
+        (r : Bool) (is : r ≡ fits (clausesFor onlyXcdr2) (typesBy b (take (k - 0) u)) root) where
+      same : r ≡ fits (clausesFor onlyXcdr2) (typesOf b) root
       same =
           let m : k - 0 ≡ indexCount b (length l) = omega arith in
           let e : typesBy b (take (k - 0) u) ≡ typesOf b = rw (m, written) (index-good b l (sym ok ∙ not-false good fine) (omega arith)) in
-          is ∙ ap (λ (types : List BookType). fits checkClauses types root) e
+          is ∙ ap (λ (types : List BookType). fits (clausesFor onlyXcdr2) types root) e
 
-      pub check-fit : r ≡ true → 0 ≡ checkOf b root
+      pub check-fit : r ≡ true → 0 ≡ checkOf b root onlyXcdr2
       unfolding checkOf
       check-fit h = rw (← ok, not-false good fine, ← count, lt-ltb root n low, ← same, h)
 
-      pub check-unfit : r ≡ false → 16 ≡ checkOf b root
+      pub check-unfit : r ≡ false → 16 ≡ checkOf b root onlyXcdr2
       unfolding checkOf
       check-unfit h = rw (← ok, not-false good fine, ← count, lt-ltb root n low, ← same, h)
