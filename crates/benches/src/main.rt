@@ -334,10 +334,10 @@ fn text(table: &[u64], row: usize, s: &[u8]) {
 // The type check of example 1's book: the structure passes, an INT32 is no root, there is no type 2; and bytes that are no book.
 fn checks() {
     title(b"check");
-    code(fit::check(&INT32, 1));
-    code(fit::check(&INT32, 0));
-    code(fit::check(&INT32, 2));
-    code(fit::check(b"", 0));
+    code(fit::check(&INT32, 1, false));
+    code(fit::check(&INT32, 0, false));
+    code(fit::check(&INT32, 2, false));
+    code(fit::check(b"", 0, false));
 }
 
 fn main() {

@@ -21,5 +21,6 @@ pub mod Room
 pub mod Needed
 pub mod Bigger
 mod Examples
+mod IdExamples
 mod WithinExamples
 mod RoomExamples
