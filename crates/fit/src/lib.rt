@@ -12,14 +12,12 @@ ghost use Rattle.fit.specs.Code.Check.{tooLong, longestFrom, chainOf, Me
 pub mod clauses;
 pub mod ids;
 
-use book::index::index;
 use book::index::place;
-use book::judge::judge;
+use book::judge::judge_into;
 use book::member::after;
 use book::member::members;
 use book::member::type_index;
 use book::types::element;
-use book::types::type_count;
 use clauses::clauses_met;
 use kinds::names::ARRAY;
 use kinds::names::ENUM;
@@ -122,14 +120,14 @@ fn fits_by(book: &[u8], index: &[u32], root: usize, only_xcdr2: bool) -> bool
 pub fn check(book: &[u8], root: usize, only_xcdr2: bool) -> u8
     ensures { λ r. ⌜ r ≡ checkOf (now (book .entry)) root «only_xcdr2» ⌝ }
 {
-    if !judge(book) {
+    let mut places = [0u32; TYPES];
+    let n = judge_into(book, &mut places);
+    if n == 0 {
         return 8;
     }
-    if type_count(book) <= root {
+    if n <= root {
         return 9;
     }
-    let mut places = [0u32; TYPES];
-    let n = index(book, &mut places);
     if fits_by(book, &places[0..n], root, only_xcdr2) {
         return 0;
     }
