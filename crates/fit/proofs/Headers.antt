@@ -142,3 +142,12 @@ module _ (book : List ℕ) (root : ℕ) (only : Bool) (passes : checkOf book roo
       let f = fits-at only (typeNo (typesOf book) k .members) i (both-first (every (idFits only) (typeNo (typesOf book) k .members)) _ both-asked) h in
       let w = held only (f .0) (f .1) in
       (w .0, w .1, w .2 ∙ ap (askedFor (heldBy only)) (f .2))
+
+-- THE LIMITS ARE NO SMALLER THAN THEY MUST BE: of an id beyond them there is no header, so no lookup of it finds one
+pub unheld-xcdr1 : (word id : ℕ) → 16383 < lowBits id → IsHeaderOf Xcdr1 word id → ⊥
+unfolding headerId askedFor
+unheld-xcdr1 word id h e = omega arith
+
+pub unheld-xcdr2 : (word id : ℕ) → 268435455 < id → IsHeaderOf Xcdr2 word id → ⊥
+unfolding headerId askedFor
+unheld-xcdr2 word id h e = omega arith
