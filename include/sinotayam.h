@@ -44,9 +44,17 @@ enum {
 /* Reads a message of the book's type `root`, in the mode that `standard` says. Returns rows * 256 + number. The table holds the rows and then zeros; on a refusal it is all zero. */
 uint64_t sinotayam_read(const uint8_t *book, size_t book_len, uint16_t root, const uint8_t *message, size_t message_len, uint8_t standard, uint64_t *table, size_t words);
 
-/* The type check: 0 where every reading of the book's type `root`, in either mode, gives 0, 1, 2, 10, 13 or 14; 8 for a book that breaks a rule, 9 for a root
-   that is none of its types, else 16. */
-uint8_t sinotayam_check(const uint8_t *book, size_t book_len, uint16_t root);
+/* Which encodings a type is used with, which the type check is told: any, or XCDR2 only (any other number is that too). */
+enum {
+    SINOTAYAM_ANY_ENCODING = 0,
+    SINOTAYAM_ONLY_XCDR2 = 1
+};
+
+/* The type check: 0 where every reading of the book's type `root`, in either mode, gives 0, 1, 2, 10, 13 or 14, and no member's header is taken for
+   another's; 8 for a book that breaks a rule, 9 for a root that is none of its types, else 16. Asked of the ids in each structure or union that is
+   Mutable or has an optional member: for any encoding, that their low 16 bits differ and are at most 16,383; for XCDR2 only, that each is at
+   most 268,435,455. */
+uint8_t sinotayam_check(const uint8_t *book, size_t book_len, uint16_t root, uint8_t only_xcdr2);
 
 /* Judges a book once, and fills an index for sinotayam_read_prepared. Returns 0; 8 for a book that breaks a rule; 13 where the index has fewer
    words than the book has types and one more. After 8 and 13 the index holds no types, and every reading with it is 8, also where sinotayam_read

@@ -13,7 +13,7 @@ mod ffi {
             table: *mut u64,
             words: usize,
         ) -> u64;
-        pub fn sinotayam_check(book: *const u8, book_len: usize, root: u16) -> u8;
+        pub fn sinotayam_check(book: *const u8, book_len: usize, root: u16, only_xcdr2: u8) -> u8;
         pub fn sinotayam_prepare(book: *const u8, book_len: usize, index: *mut u32, index_len: usize) -> u8;
         pub fn sinotayam_read_prepared(
             book: *const u8,
@@ -51,6 +51,16 @@ pub enum Mode {
     Crate = 0,
     /// As DDS-XTypes 1.3 does: values end where their DHEADER says, and what the type does not know is passed over.
     Standard = 1,
+}
+
+/// Which encodings a type is used with.
+#[derive(Clone, Copy, Debug, PartialEq, Eq)]
+#[repr(u8)]
+pub enum Encodings {
+    /// Any: in types with headers the low 16 bits of the ids differ, and are at most 16,383.
+    Any = 0,
+    /// XCDR2 and no other: there each id is at most 268,435,455.
+    OnlyXcdr2 = 1,
 }
 
 /// Why there are no rows: the numbers that are given back, but for 0.
@@ -175,10 +185,11 @@ pub fn read<'t>(
     })
 }
 
-/// The type check: whether every reading of the book's type `root`, in either mode, is a finished one, or refused for the message's or the table's sake alone.
-pub fn check(book: &[u8], root: u16) -> Result<(), Refusal> {
+/// The type check: whether every reading of the book's type `root`, in either mode, is a finished one, or refused for the message's or the table's sake alone;
+/// and whether, in the encodings that the type is used with, no member's header is taken for another's.
+pub fn check(book: &[u8], root: u16, encodings: Encodings) -> Result<(), Refusal> {
     // The pointer and the length are those of a live slice, and nothing is written.
-    let number = unsafe { ffi::sinotayam_check(book.as_ptr(), book.len(), root) };
+    let number = unsafe { ffi::sinotayam_check(book.as_ptr(), book.len(), root, encodings as u8) };
     Refusal::of_number(number).map_or(Ok(()), Err)
 }
 

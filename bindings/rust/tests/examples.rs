@@ -1,5 +1,5 @@
 //! Bench examples of document 01, through the safe calls.
-use sinotayam::{check, data, read, Mode, Prepared, Refusal, Row};
+use sinotayam::{check, data, read, Encodings, Mode, Prepared, Refusal, Row};
 
 const BOOK: &[u8] = b"\x00\x00\x00\x2c\x01\x00\x02\x00\x0e\x04\x00\x00\x00\x00\x00\x00\x00\xff\xff\x00\x00\
     \x00\x17\x16\x00\x00\x00\x00\x00\x00\x00\xff\xff\x00\x01\x00\x00\x00\x07\x00\x00\x00\x01\x00";
@@ -98,8 +98,21 @@ fn an_empty_table_has_no_room() {
 
 #[test]
 fn the_type_check_of_example_1() {
-    assert_eq!(check(BOOK, 1), Ok(()));
-    assert_eq!(check(BOOK, 0), Err(Refusal::Unfit));
-    assert_eq!(check(BOOK, 2), Err(Refusal::BadRoot));
-    assert_eq!(check(&[], 0), Err(Refusal::BadBook));
+    assert_eq!(check(BOOK, 1, Encodings::Any), Ok(()));
+    assert_eq!(check(BOOK, 0, Encodings::Any), Err(Refusal::Unfit));
+    assert_eq!(check(BOOK, 2, Encodings::Any), Err(Refusal::BadRoot));
+    assert_eq!(check(&[], 0, Encodings::Any), Err(Refusal::BadBook));
+}
+
+// An INT32, and a Mutable structure of two with the ids 5 and 65541.
+const ALIKE: &[u8] = b"\0\0\0\x35\x01\0\x02\
+    \0\x0E\x04\0\0\0\0\0\0\0\xFF\xFF\0\0\
+    \0\x20\x16\x02\0\0\0\0\0\0\xFF\xFF\0\x02\
+    \0\0\0\x05\0\0\0\x01\0\
+    \0\x01\0\x05\0\0\0\x01\0";
+
+#[test]
+fn two_ids_that_share_an_xcdr1_header() {
+    assert_eq!(check(ALIKE, 1, Encodings::Any), Err(Refusal::Unfit));
+    assert_eq!(check(ALIKE, 1, Encodings::OnlyXcdr2), Ok(()));
 }

@@ -11,7 +11,12 @@ const INT32: [u8; 44] =
     *b"\x00\x00\x00\x2c\x01\x00\x02\x00\x0e\x04\x00\x00\x00\x00\x00\x00\x00\xff\xff\x00\x00\x00\x17\x16\x00\
     \x00\x00\x00\x00\x00\x00\xff\xff\x00\x01\x00\x00\x00\x07\x00\x00\x00\x01\x00";
 
-// The same, UseDefault.
+// Order 3's type: M{5: INT32, 65541: INT32}.
+const ALIKE: [u8; 53] =
+    *b"\x00\x00\x00\x35\x01\x00\x02\x00\x0e\x04\x00\x00\x00\x00\x00\x00\x00\xff\xff\x00\x00\x00\x20\x16\x02\
+    \x00\x00\x00\x00\x00\x00\xff\xff\x00\x02\x00\x00\x00\x05\x00\x00\x00\x01\x00\x00\x01\x00\x05\x00\x00\x00\x01\x00";
+
+// The same as the first, UseDefault.
 const INT32_DEFAULT: [u8; 44] =
     *b"\x00\x00\x00\x2c\x01\x00\x02\x00\x0e\x04\x00\x00\x00\x00\x00\x00\x00\xff\xff\x00\x00\x00\x17\x16\x00\
     \x00\x00\x00\x00\x00\x00\xff\xff\x00\x01\x00\x00\x00\x07\x00\x00\x00\x00\x00";
@@ -331,13 +336,16 @@ fn text(table: &[u64], row: usize, s: &[u8]) {
     title(sinotayam::texts::text(table, row, s));
 }
 
-// The type check of example 1's book: the structure passes, an INT32 is no root, there is no type 2; and bytes that are no book.
+// The type check of example 1's book: the structure passes, an INT32 is no root, there is no type 2; and bytes that are no book. Then of order 3's
+// type, for any encoding and for XCDR2 only.
 fn checks() {
     title(b"check");
-    code(fit::check(&INT32, 1));
-    code(fit::check(&INT32, 0));
-    code(fit::check(&INT32, 2));
-    code(fit::check(b"", 0));
+    code(fit::check(&INT32, 1, false));
+    code(fit::check(&INT32, 0, false));
+    code(fit::check(&INT32, 2, false));
+    code(fit::check(b"", 0, false));
+    code(fit::check(&ALIKE, 1, false));
+    code(fit::check(&ALIKE, 1, true));
 }
 
 fn main() {

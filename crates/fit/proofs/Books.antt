@@ -17,7 +17,7 @@ use Rattle.fit.proofs.Exact.{Linked, below-or-not}
 use Rattle.fit.proofs.Settling.{Right}
 
 -- a number that no type has
-past-end : (types : List BookType) (k : ℕ) → length types ≤ k → typeNo types k ≡ noType
+pub past-end : (types : List BookType) (k : ℕ) → length types ≤ k → typeNo types k ≡ noType
 unfolding typeNo
 past-end types k h = List·getD-eq-default types noType {n = k} h
 

@@ -1,18 +1,20 @@
 -- Laws of the check itself: one for each answer. Assumes nothing.
 use Prim.Native.Nat.{ℕ, _-_, _≤_, _<_}
-use mathlib.Core.Path.{_≡_, sym, ap, _∙_}
+use mathlib.Core.Path.{_≡_, refl, sym, ap, _∙_}
 use mathlib.Core.Bool.{Bool, true, false, not}
 use mathlib.Core.List.{List}
 use native.Mathlib.Omega.{arith}
 use lib.Dec.{leb}
 use lib.ListN.{length, take}
 use borrow.Author.Tests.{not-true, not-false, lt-ltb, le-ltb}
+use Rattle.ground.specs.Choice.{pick}
 use Rattle.kinds.specs.Kinds.{opens}
 use Rattle.book.specs.Types.{BookType, typeCount, typesOf, typeNo}
 use Rattle.book.specs.Places.{typeAt, typesBy, PlaceOf, indexCount, indexed}
-use Rattle.book.specs.Rules.{bookOk}
-use Rattle.book.proofs.Good.{count-good, index-good}
-use Rattle.fit.specs.Fit.{Clause, checkClauses}
+use Rattle.book.specs.Rules.{headOk, bookOk}
+use Rattle.book.proofs.Good.{head-good, count-good, index-good}
+use Rattle.fit.specs.Fit.{Clause}
+use Rattle.fit.specs.Ids.{clausesFor}
 use Rattle.fit.specs.Check.{checkOf}
 use Rattle.fit.specs.Code.Check.{chainOf, chainsOf, Measured, fits}
 
@@ -30,33 +32,59 @@ module _ (clauses : List Clause) (b index : List ℕ) (root p kind : ℕ) (o : B
       let kind : opens (typeNo (typesBy b index) root .kind) ≡ true = rw (← at .is, ← is, ← opened) (not-false o h) in
       rw (kind, own)
 
--- "Otherwise 8, 9, then 16."
-module _ (b : List ℕ) (root : ℕ) (good : Bool) (ok : good ≡ bookOk b) where
-  pub check-book : not good ≡ true → 8 ≡ checkOf b root
-  unfolding checkOf
-  check-book h = rw (← ok, not-true good h)
+-- the judge counts 64 types at most
+pub judge-few : (b : List ℕ) (n : ℕ) → n ≡ pick (bookOk b) (typeCount b) 0 → n ≤ 64
+judge-few b n count = by-book (bookOk b) refl
+  where
+    by-book : (good : Bool) → bookOk b ≡ good → n ≤ 64
+    by-book true e = let c : n ≡ typeCount b = rw e at count in omega (arith, count-good b e .1)
+    by-book false e = let z : n ≡ 0 = rw e at count in omega arith
 
-  module _ (fine : not good ≡ false) (n : ℕ) (count : n ≡ typeCount b) where
-    pub check-root : n ≤ root → 9 ≡ checkOf b root
+-- "Otherwise 8, 9, then 16.", by what the judge counts: no types of a book that breaks a rule
+module _ (b : List ℕ) (root : ℕ) (onlyXcdr2 : Bool) (n : ℕ) (count : n ≡ pick (bookOk b) (typeCount b) 0) where
+  judged : (n ≡ 0 → ⊥) → bookOk b ≡ true
+  judged some = by-book (bookOk b) refl
+    where
+      by-book : (good : Bool) → bookOk b ≡ good → good ≡ true
+      by-book true e = refl
+      by-book false e = let z : n ≡ 0 = rw e at count in absurd (some z)
+
+  refused : n ≡ 0 → bookOk b ≡ false
+  refused z = by-book (bookOk b) refl
+    where
+      by-book : (good : Bool) → bookOk b ≡ good → good ≡ false
+      by-book true e = let c : n ≡ typeCount b = rw e at count in absurd (omega (arith, count-good b e .0))
+      by-book false e = refl
+
+  pub check-book : n ≡ 0 → 8 ≡ checkOf b root onlyXcdr2
+  unfolding checkOf
+  check-book z = rw (refused z)
+
+  module _ (some : n ≡ 0 → ⊥) where
+    counted : n ≡ typeCount b
+    counted = rw (judged some) at count
+
+    pub check-root : n ≤ root → 9 ≡ checkOf b root onlyXcdr2
     unfolding checkOf
-    check-root h = rw (← ok, not-false good fine, ← count, le-ltb root n h)
+    check-root h = rw (judged some, ← counted, le-ltb root n h)
 
     pub root-small : root < n → root < 64
-    root-small h = omega (arith, count-good b (sym ok ∙ not-false good fine) .1)
+    root-small h = omega (arith, counted, count-good b (judged some) .1)
 
     -- the types of the book are those that its whole index finds
-    module _ (low : root < n) (l u : List ℕ) (k : ℕ) (long : length l ≡ 64) (all : k ≡ indexCount b (length l)) (written : u ≡ indexed b l)
-        (r : Bool) (is : r ≡ fits checkClauses (typesBy b (take (k - 0) u)) root) where
-      same : r ≡ fits checkClauses (typesOf b) root
+    module _ (low : root < n) (l u : List ℕ) (long : length l ≡ 64) (written : u ≡ pick (headOk b) (indexed b l) l)
+        (r : Bool) (is : r ≡ fits (clausesFor onlyXcdr2) (typesBy b (take (n - 0) u)) root) where
+      same : r ≡ fits (clausesFor onlyXcdr2) (typesOf b) root
       same =
-          let m : k - 0 ≡ indexCount b (length l) = omega arith in
-          let e : typesBy b (take (k - 0) u) ≡ typesOf b = rw (m, written) (index-good b l (sym ok ∙ not-false good fine) (omega arith)) in
-          is ∙ ap (λ (types : List BookType). fits checkClauses types root) e
+          let m : n - 0 ≡ indexCount b (length l) = omega (arith, counted, count-good b (judged some) .1) in
+          let w : u ≡ indexed b l = rw (head-good b (judged some)) at written in
+          let e : typesBy b (take (n - 0) u) ≡ typesOf b = rw (m, w) (index-good b l (judged some) (omega arith)) in
+          is ∙ ap (λ (types : List BookType). fits (clausesFor onlyXcdr2) types root) e
 
-      pub check-fit : r ≡ true → 0 ≡ checkOf b root
+      pub check-fit : r ≡ true → 0 ≡ checkOf b root onlyXcdr2
       unfolding checkOf
-      check-fit h = rw (← ok, not-false good fine, ← count, lt-ltb root n low, ← same, h)
+      check-fit h = rw (judged some, ← counted, lt-ltb root n low, ← same, h)
 
-      pub check-unfit : r ≡ false → 16 ≡ checkOf b root
+      pub check-unfit : r ≡ false → 16 ≡ checkOf b root onlyXcdr2
       unfolding checkOf
-      check-unfit h = rw (← ok, not-false good fine, ← count, lt-ltb root n low, ← same, h)
+      check-unfit h = rw (judged some, ← counted, lt-ltb root n low, ← same, h)

@@ -14,6 +14,7 @@ use Rattle.book.specs.Places.{memberAt, typeAt, typesBy, listed, Started, Place
 use Rattle.book.proofs.Places.{run-more, run-none}
 use Rattle.book.proofs.Judging.{every-laws}
 use Rattle.fit.specs.Fit.{memberSupported, membersSupported, elementSupported, baseSupported, chooses, firstChooses, discriminatorFits, checkClauses, meets}
+use Rattle.fit.specs.Ids.{idsFit, clausesFor}
 
 -- the kind of the type with a number, by its place
 pub kind-there : (b index : List ℕ) (k p r : ℕ) → PlaceOf b index k p → r ≡ typeAt b p .kind → r ≡ typeNo (typesBy b index) k .kind
@@ -93,14 +94,20 @@ module _ (types : List BookType) (b : List ℕ) (at kind : ℕ) (is : kind ≡ t
         g ∙ ap chooses q ∙ sym (first-is ∙ ap (firstChooses types) (run-more b ms h))
 
 -- ---- all of them
-in-turn : (a b c d : Bool) → (((a && b) && c) && d) ≡ both a (both b (both c (both d true)))
-in-turn false b c d = refl
-in-turn true false c d = refl
-in-turn true true false d = refl
-in-turn true true true false = refl
-in-turn true true true true = refl
+in-turn : (a b c d e : Bool) → ((((a && b) && c) && d) && e) ≡ both e (both a (both b (both c (both d true))))
+in-turn false b c d false = refl
+in-turn false b c d true = refl
+in-turn true false c d false = refl
+in-turn true false c d true = refl
+in-turn true true false d false = refl
+in-turn true true false d true = refl
+in-turn true true true false false = refl
+in-turn true true true false true = refl
+in-turn true true true true false = refl
+in-turn true true true true true = refl
 
-pub all-met : (types : List BookType) (t : BookType) (a b c d : Bool) → a ≡ membersSupported types t → b ≡ elementSupported types t
-    → ((ts : List BookType) → c ≡ baseSupported ts t) → d ≡ discriminatorFits types t → (((a && b) && c) && d) ≡ meets checkClauses types t
-unfolding meets checkClauses every
-all-met types t a b c d p q r s = rw (← p, ← q, ← r types, ← s) (in-turn a b c d)
+pub all-met : (only : Bool) (types : List BookType) (t : BookType) (a b c d e : Bool) → a ≡ membersSupported types t → b ≡ elementSupported types t
+    → ((ts : List BookType) → c ≡ baseSupported ts t) → d ≡ discriminatorFits types t → ((ts : List BookType) → e ≡ idsFit only ts t)
+    → ((((a && b) && c) && d) && e) ≡ meets (clausesFor only) types t
+unfolding meets clausesFor checkClauses every
+all-met only types t a b c d e p q r s u = rw (← p, ← q, ← r types, ← s, ← u types) (in-turn a b c d e)

@@ -2,15 +2,17 @@
 -- whose paths no walk could follow one by one; example 1's book. All are computed from the definitions.
 use Prim.Native.Nat.{ℕ, zero, suc, _+_, _-_}
 use mathlib.Core.Path.{_≡_, refl}
-use mathlib.Core.Bool.{Bool, true, not}
+use mathlib.Core.Bool.{Bool, true, false, not}
 use mathlib.Core.List.{List, [], _∷_, _++_}
 use lib.ListN.{length}
 use Rattle.ground.specs.Choice.{every}
 use Rattle.kinds.specs.Kinds.{opens, unsupportedMember, unsupportedElement, bitmaskStored, storedByBound}
-use Rattle.book.specs.Types.{BookType, Member, noIndex, default, bounded, labelsOf, memberOf, pastMember, membersOf, typeOf, pastType, typesFrom, typesOf, noType, typeNo}
+use Rattle.book.specs.Types.{BookType, Member, noIndex, optional, default, bounded, labelsOf, memberOf, pastMember, membersOf, typeOf, pastType, typesFrom, typesOf, noType, typeNo}
 use Rattle.book.specs.Rules.{sizeOk, versionOk, typeCountOk, headOk, filled, recordLengthOk, kindOk, extensibilityOk, baseOk, boundFlagOk, codesOk, arrayBoundOk, boundOk, elementOk, memberCountOk, memberKindOk, someMemberOk, ownOk, boundsOk, countOk}
 use Rattle.book.specs.Rules.{otherId, idOk, linkOk, flagsOk, constructOk, labelCountOk, firstOfUnion, firstIdOk, firstKindOk, firstDefaultOk, firstLabelOk, memberOk, membersOk, typeOk, recordOk, recordsOk, bookOk}
+use Rattle.reader.specs.Nested.{isMutable, isStructure}
 use Rattle.fit.specs.Fit.{memberTypes, linksOf, memberSupported, membersSupported, elementSupported, baseSupported, chooses, firstChooses, discriminatorFits, checkClauses, meets}
+use Rattle.fit.specs.Ids.{required, hasHeaders, idFits, otherLow, lowDiffer, idsFit, clausesFor}
 use Rattle.fit.specs.Check.{checkOf}
 use Rattle.fit.specs.Code.Check.{longestFrom, withOwn, chainOf, chainsOf, fits}
 
@@ -145,6 +147,6 @@ book1 =
     0 ∷ 0 ∷ 0 ∷ 0x2C ∷ 1 ∷ 0 ∷ 2 ∷ 0 ∷ 0x0E ∷ 4 ∷ 0 ∷ 0 ∷ 0 ∷ 0 ∷ 0 ∷ 0 ∷ 0 ∷ 0xFF ∷ 0xFF ∷ 0 ∷ 0
     ∷ 0 ∷ 0x17 ∷ 0x16 ∷ 0 ∷ 0 ∷ 0 ∷ 0 ∷ 0 ∷ 0 ∷ 0 ∷ 0xFF ∷ 0xFF ∷ 0 ∷ 1 ∷ 0 ∷ 0 ∷ 0 ∷ 7 ∷ 0 ∷ 0 ∷ 0 ∷ 1 ∷ 0 ∷ []
 
-answers : map (checkOf book1) (0 ∷ 1 ∷ 2 ∷ []) ++ checkOf [] 0 ∷ [] ≡ 16 ∷ 0 ∷ 9 ∷ 8 ∷ []
-unfolding checkOf fits chainsOf chainOf withOwn longestFrom meets checkClauses memberTypes linksOf memberSupported membersSupported elementSupported baseSupported chooses firstChooses discriminatorFits opens unsupportedMember unsupportedElement bitmaskStored storedByBound bounded every typeNo noType labelsOf memberOf pastMember membersOf typeOf pastType typesFrom typesOf default sizeOk versionOk typeCountOk headOk filled recordLengthOk kindOk extensibilityOk baseOk boundFlagOk codesOk arrayBoundOk boundOk boundsOk elementOk memberCountOk memberKindOk someMemberOk countOk ownOk otherId idOk linkOk flagsOk constructOk labelCountOk firstOfUnion firstIdOk firstKindOk firstDefaultOk firstLabelOk memberOk membersOk typeOk recordOk recordsOk bookOk
+answers : map (λ root. checkOf book1 root false) (0 ∷ 1 ∷ 2 ∷ []) ++ checkOf [] 0 false ∷ [] ≡ 16 ∷ 0 ∷ 9 ∷ 8 ∷ []
+unfolding checkOf clausesFor idsFit hasHeaders required optional isMutable isStructure fits chainsOf chainOf withOwn longestFrom meets checkClauses memberTypes linksOf memberSupported membersSupported elementSupported baseSupported chooses firstChooses discriminatorFits opens unsupportedMember unsupportedElement bitmaskStored storedByBound bounded every typeNo noType labelsOf memberOf pastMember membersOf typeOf pastType typesFrom typesOf default sizeOk versionOk typeCountOk headOk filled recordLengthOk kindOk extensibilityOk baseOk boundFlagOk codesOk arrayBoundOk boundOk boundsOk elementOk memberCountOk memberKindOk someMemberOk countOk ownOk otherId idOk linkOk flagsOk constructOk labelCountOk firstOfUnion firstIdOk firstKindOk firstDefaultOk firstLabelOk memberOk membersOk typeOk recordOk recordsOk bookOk
 answers = refl

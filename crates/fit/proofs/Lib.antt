@@ -9,9 +9,11 @@ pub mod Settling
 pub mod Exact
 pub mod Books
 pub mod ClauseTests
+pub mod IdTests
 pub mod Measuring
 pub mod Checking
 pub mod Demand3
+pub mod Headers
 pub mod Standing
 pub mod Searches
 pub mod Within
@@ -19,5 +21,6 @@ pub mod Room
 pub mod Needed
 pub mod Bigger
 mod Examples
+mod IdExamples
 mod WithinExamples
 mod RoomExamples

@@ -1,21 +1,22 @@
 -- What demand 3 says of a reading, and what the check's number says of a book and a root.
 use Prim.Native.Nat.{ℕ, _≤_, _<_}
 use mathlib.Core.Path.{_≡_}
-use mathlib.Core.Bool.{true, false}
+use mathlib.Core.Bool.{Bool, true, false}
 use mathlib.Core.List.{List}
 use lib.ListN.{getD}
 use Rattle.book.specs.Types.{BookType, typeCount, typesOf}
 use Rattle.book.specs.Rules.{bookOk}
 use Rattle.table.specs.Outcome.{Outcome, numberOf, rowsOf}
-use Rattle.fit.specs.Fit.{checkClauses, Passes}
+use Rattle.fit.specs.Fit.{Passes}
+use Rattle.fit.specs.Ids.{clausesFor}
 use Rattle.shape.specs.Shape.{Opened}
 
 -- the check's number, with what it says: 0 passes, "Otherwise 8, 9, then 16."
-pub data Checked (book : List ℕ) (root : ℕ) : ℕ → Type 0 where
-  fit : bookOk book ≡ true → root < typeCount book → Passes checkClauses (typesOf book) root → Checked book root 0
-  bad-book : bookOk book ≡ false → Checked book root 8
-  bad-root : bookOk book ≡ true → typeCount book ≤ root → Checked book root 9
-  unfit : bookOk book ≡ true → root < typeCount book → (Passes checkClauses (typesOf book) root → ⊥) → Checked book root 16
+pub data Checked (book : List ℕ) (root : ℕ) (onlyXcdr2 : Bool) : ℕ → Type 0 where
+  fit : bookOk book ≡ true → root < typeCount book → Passes (clausesFor onlyXcdr2) (typesOf book) root → Checked book root onlyXcdr2 0
+  bad-book : bookOk book ≡ false → Checked book root onlyXcdr2 8
+  bad-root : bookOk book ≡ true → typeCount book ≤ root → Checked book root onlyXcdr2 9
+  unfit : bookOk book ≡ true → root < typeCount book → (Passes (clausesFor onlyXcdr2) (typesOf book) root → ⊥) → Checked book root onlyXcdr2 16
 
 -- the elements of the data are bytes. A list's elements may be any numbers; those of a slice that a call is lent are such
 abbrev pub AreBytes : List ℕ → Type 0

@@ -1,4 +1,5 @@
 pub mod Fit
+pub mod Ids
 pub mod Code
 pub mod Check
 pub mod Demand3

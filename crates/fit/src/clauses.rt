@@ -3,7 +3,9 @@ ghost use mathlib.Core.Path.{_≡_};
 ghost use mathlib.Core.List.{List};
 ghost use Rattle.book.specs.Types.{BookType, typeNo};
 ghost use Rattle.book.specs.Places.{memberAt, typeAt, typesBy};
-ghost use Rattle.fit.specs.Fit.{memberSupported, membersSupported, elementSupported, baseSupported, chooses, discriminatorFits, checkClauses, meets};
+ghost use Rattle.fit.specs.Fit.{memberSupported, membersSupported, elementSupported, baseSupported, chooses, discriminatorFits, meets};
+ghost use Rattle.fit.specs.Ids.{clausesFor};
+use crate::ids::ids_fit;
 use book::index::place;
 use book::member::after;
 use book::member::members;
@@ -112,11 +114,12 @@ fn discriminator_fits(book: &[u8], index: &[u32], at: usize) -> bool
 }
 
 // Every clause of the check: the function of a clause that is added joins the others here.
-pub fn clauses_met(book: &[u8], index: &[u32], at: usize) -> bool
-    ensures { λ r. ⌜ r ≡ meets checkClauses (typesBy (now (book .entry)) (now (index .entry))) (typeAt (now (book .entry)) at) ⌝ }
+pub fn clauses_met(book: &[u8], index: &[u32], at: usize, only_xcdr2: bool) -> bool
+    ensures { λ r. ⌜ r ≡ meets (clausesFor «only_xcdr2») (typesBy (now (book .entry)) (now (index .entry))) (typeAt (now (book .entry)) at) ⌝ }
 {
     members_supported(book, index, at)
         & element_supported(book, index, at)
         & base_supported(book, at)
         & discriminator_fits(book, index, at)
+        & ids_fit(book, at, only_xcdr2)
 }

@@ -4,20 +4,20 @@ ghost use mathlib.Core.Path.{_≡_};
 ghost use Prim.Native.Nat.{_≤_, _<_, max};
 ghost use lib.ListN.{length, getD};
 ghost use Rattle.book.specs.Places.{typeAt, typesBy};
-ghost use Rattle.fit.specs.Fit.{linksOf, checkClauses};
+ghost use Rattle.fit.specs.Fit.{linksOf};
+ghost use Rattle.fit.specs.Ids.{clausesFor};
 ghost use Rattle.fit.specs.Check.{checkOf};
 ghost use Rattle.fit.specs.Code.Check.{tooLong, longestFrom, chainOf, Measured, fits};
 
 pub mod clauses;
+pub mod ids;
 
-use book::index::index;
 use book::index::place;
-use book::judge::judge;
+use book::judge::judge_into;
 use book::member::after;
 use book::member::members;
 use book::member::type_index;
 use book::types::element;
-use book::types::type_count;
 use clauses::clauses_met;
 use kinds::names::ARRAY;
 use kinds::names::ENUM;
@@ -71,10 +71,10 @@ fn longest(book: &[u8], lower: &[u8], at: usize) -> u8
 }
 
 // The longest chain from the type at a place, whose lower records are measured.
-fn chain(book: &[u8], index: &[u32], lower: &[u8], at: usize) -> u8
-    ensures { λ r. ⌜ r ≡ chainOf checkClauses (typesBy (now (book .entry)) (now (index .entry))) (now (lower .entry)) (typeAt (now (book .entry)) at) ⌝ }
+fn chain(book: &[u8], index: &[u32], lower: &[u8], at: usize, only_xcdr2: bool) -> u8
+    ensures { λ r. ⌜ r ≡ chainOf (clausesFor «only_xcdr2») (typesBy (now (book .entry)) (now (index .entry))) (now (lower .entry)) (typeAt (now (book .entry)) at) ⌝ }
 {
-    if !clauses_met(book, index, at) {
+    if !clauses_met(book, index, at, only_xcdr2) {
         return TOO_LONG;
     }
     let m = longest(book, lower, at);
@@ -88,46 +88,47 @@ fn chain(book: &[u8], index: &[u32], lower: &[u8], at: usize) -> u8
 }
 
 // Measures the first n records, the lower ones first, so that each is measured once.
-fn chains(book: &[u8], index: &[u32], lent: &mut [u8], n: usize)
+fn chains(book: &[u8], index: &[u32], lent: &mut [u8], n: usize, only_xcdr2: bool)
     requires { ⌜ n ≤ length (now lent) ⌝ }
-    ensures { λ r. ⌜ Measured checkClauses (typesBy (now (book .entry)) (now (index .entry))) n (now (lent .entry)) (now (lent .exit)) ⌝ }
+    ensures { λ r. ⌜ Measured (clausesFor «only_xcdr2») (typesBy (now (book .entry)) (now (index .entry))) n (now (lent .entry)) (now (lent .exit)) ⌝ }
 {
     if n == 0 {
         return;
     }
     let k = n - 1;
-    chains(book, index, lent, k);
-    let m = chain(book, index, &lent[0..k], place(book, index, k));
+    chains(book, index, lent, k, only_xcdr2);
+    let m = chain(book, index, &lent[0..k], place(book, index, k), only_xcdr2);
     lent[k] = m;
 }
 
 // Whether the check passes type number `root` of those that an index finds.
-fn fits_by(book: &[u8], index: &[u32], root: usize) -> bool
+fn fits_by(book: &[u8], index: &[u32], root: usize, only_xcdr2: bool) -> bool
     requires { ⌜ root < 64 ⌝ }
-    ensures { λ r. ⌜ r ≡ fits checkClauses (typesBy (now (book .entry)) (now (index .entry))) root ⌝ }
+    ensures { λ r. ⌜ r ≡ fits (clausesFor «only_xcdr2») (typesBy (now (book .entry)) (now (index .entry))) root ⌝ }
 {
     let at = place(book, index, root);
     if !kinds::opens(kind_at(book, at)) {
         return false;
     }
     let mut lent = [0u8; TYPES];
-    chains(book, index, &mut lent, root);
-    chain(book, index, &lent[0..root], at) <= LONGEST
+    chains(book, index, &mut lent, root, only_xcdr2);
+    chain(book, index, &lent[0..root], at, only_xcdr2) <= LONGEST
 }
 
-// The type check: 0 where it passes, 8 for a book that breaks a rule, 9 for a root that the book has not, and 16 for a type that is not fit.
-pub fn check(book: &[u8], root: usize) -> u8
-    ensures { λ r. ⌜ r ≡ checkOf (now (book .entry)) root ⌝ }
+// The type check: 0 where it passes, 8 for a book that breaks a rule, 9 for a root that the book has not, and 16 for a type that is not fit: for any
+// encoding, or for XCDR2 only.
+pub fn check(book: &[u8], root: usize, only_xcdr2: bool) -> u8
+    ensures { λ r. ⌜ r ≡ checkOf (now (book .entry)) root «only_xcdr2» ⌝ }
 {
-    if !judge(book) {
+    let mut places = [0u32; TYPES];
+    let n = judge_into(book, &mut places);
+    if n == 0 {
         return 8;
     }
-    if type_count(book) <= root {
+    if n <= root {
         return 9;
     }
-    let mut places = [0u32; TYPES];
-    let n = index(book, &mut places);
-    if fits_by(book, &places[0..n], root) {
+    if fits_by(book, &places[0..n], root, only_xcdr2) {
         return 0;
     }
     16

@@ -41,47 +41,47 @@ module _ (book s : List ℕ) (root : ℕ) where
   unfolding codeOf
   too-long t next long rest = by-refused t TooLong next (λ e. before TooLong (over-limit (long e)) (λ z. omega arith)) (λ e. rest)
 
-  identified : AreBytes s → (room : ℕ) (r : Representation) → checkOf book root ≡ 0 → Safe book s root (byIdentifier (typesOf book) root s room r)
+  identified : AreBytes s → (room : ℕ) (only : Bool) (r : Representation) → checkOf book root only ≡ 0 → Safe book s root (byIdentifier (typesOf book) root s room r)
   unfolding byIdentifier codeOf resultOf
-  identified bytes room Unknown e = before InvalidData (of-reading invalid-data) (λ z. omega arith)
-  identified bytes room (Known set) e =
-      let u = demand-3 book s bytes set root room e in
+  identified bytes room only Unknown e = before InvalidData (of-reading invalid-data) (λ z. omega arith)
+  identified bytes room only (Known set) e =
+      let u = demand-3 book s bytes set root room only e in
       record { number = of-reading (u .number); rows = u .rows }
 
   -- a type that the check passes is one of a good book
-  taken : (next : List BookType → Result) (n : ℕ) → Checked book root n → n ≡ 0 → Safe book s root (next (typesOf book)) → Safe book s root (withBook book (λ types. refusedIf (leb (length types) root) BadRoot (next types)))
+  taken : (next : List BookType → Result) (only : Bool) (n : ℕ) → Checked book root only n → n ≡ 0 → Safe book s root (next (typesOf book)) → Safe book s root (withBook book (λ types. refusedIf (leb (length types) root) BadRoot (next types)))
   unfolding withBook refusedIf
-  taken next n (fit good low p) z safe =
+  taken next only n (fit good low p) z safe =
       let out : leb (length (typesOf book)) root ≡ false = rw (length-types book) (lt-leb (typeCount book) root low) in
       rw (good, out) safe
-  taken next n (bad-book bad) z safe = absurd (omega arith)
-  taken next n (bad-root good out) z safe = absurd (omega arith)
-  taken next n (unfit good low p) z safe = absurd (omega arith)
+  taken next only n (bad-book bad) z safe = absurd (omega arith)
+  taken next only n (bad-root good out) z safe = absurd (omega arith)
+  taken next only n (unfit good low p) z safe = absurd (omega arith)
 
 -- a message's data are bytes where the message is
 data-bytes : (message : List ℕ) → AreBytes message → AreBytes (drop 4 message)
 data-bytes message bytes i = rw (getD-drop) (bytes (4 + i))
 
--- FOR EVERY BOOK AND ROOT THAT THE CHECK PASSES, every room and both modes
-module _ (book : List ℕ) (root room : ℕ) (mode : Mode) (passes : checkOf book root ≡ 0) where
+-- FOR EVERY BOOK AND ROOT THAT THE CHECK PASSES, for any encoding or for XCDR2 only, every room and both modes
+module _ (book : List ℕ) (root room : ℕ) (mode : Mode) (only : Bool) (passes : checkOf book root only ≡ 0) where
   -- every message: its data is what stands after the four-byte header
   pub message-demand-3 : (message : List ℕ) → AreBytes message → Safe book (drop 4 message) root (readOf book root message mode room)
   unfolding messageBy codeOf
   message-demand-3 message bytes =
       let s = drop 4 message in
       let long : ltb 65536 (length message) ≡ true → 65532 < length (drop 4 message) = λ e. simp length-drop (omega (arith, ltb-true 65536 (length message) e)) in
-      taken book s root _ (checkOf book root) (check-says book root) passes
+      taken book s root _ only (checkOf book root only) (check-says book root only) passes
       (too-long book s root (ltb 65536 (length message)) _ long
       (by-refused book s root (ltb (length message) 4) NotEnoughData _ (λ e. before book s root NotEnoughData (of-reading too-few-bytes) (λ z. omega arith)) (λ e.
-      identified book s root (data-bytes message bytes) room (settingsOf mode (getD message 0 0) (getD message 1 0)) passes)))
+      identified book s root (data-bytes message bytes) room only (settingsOf mode (getD message 0 0) (getD message 1 0)) passes)))
 
   -- all data
   pub data-demand-3 : (id s : List ℕ) → AreBytes s → Safe book s root (readDataOf book root id s mode room)
   unfolding dataBy
   data-demand-3 id s bytes =
-      taken book s root _ (checkOf book root) (check-says book root) passes
+      taken book s root _ only (checkOf book root only) (check-says book root only) passes
       (too-long book s root (ltb 65532 (length s)) _ (λ e. ltb-true 65532 (length s) e)
-      (identified book s root bytes room (settingsOf mode (getD id 0 0) (getD id 1 0)) passes))
+      (identified book s root bytes room only (settingsOf mode (getD id 0 0) (getD id 1 0)) passes))
 
   -- and with the index that `prepare` leaves where it says 0
   module _ (lent : List ℕ) (said : prepareOf book lent ≡ 0) where
@@ -117,25 +117,25 @@ word-demand-3 book s root w before after r safe d =
     }
 
 -- ONE FOR EACH CALL: from `check` = 0 to what the call gives back and what its table holds. What a slice lends are bytes
-module _ (book : List ℕ) (root : ℕ) (mode : Mode) (passes : checkOf book root ≡ 0) (before after : List ℕ) where
+module _ (book : List ℕ) (root : ℕ) (mode : Mode) (only : Bool) (passes : checkOf book root only ≡ 0) (before after : List ℕ) where
   module _ (message : List ℕ) (bytes : AreBytes message) where
     pub read-safe : (r : Answer) → Settled (readOf book root message mode (capacity before)) before after r → SafeCall book (drop 4 message) root before after r
-    read-safe r d = call-demand-3 book (drop 4 message) root _ before after r (message-demand-3 book root (capacity before) mode passes message bytes) d
+    read-safe r d = call-demand-3 book (drop 4 message) root _ before after r (message-demand-3 book root (capacity before) mode only passes message bytes) d
 
     pub sinotayam-read-safe : (r : ℕ) → Returned (readOf book root message mode (capacity before)) before after r → SafeWord book (drop 4 message) root before after r
-    sinotayam-read-safe r d = word-demand-3 book (drop 4 message) root _ before after r (message-demand-3 book root (capacity before) mode passes message bytes) d
+    sinotayam-read-safe r d = word-demand-3 book (drop 4 message) root _ before after r (message-demand-3 book root (capacity before) mode only passes message bytes) d
 
     -- with the index that `prepare` leaves where it says 0
     module _ (lent : List ℕ) (said : prepareOf book lent ≡ 0) where
       pub read-prepared-safe : (r : Answer) → Settled (readPrepared book (preparedFrom book lent) root message mode (capacity before)) before after r → SafeCall book (drop 4 message) root before after r
-      read-prepared-safe r d = call-demand-3 book (drop 4 message) root _ before after r (prepared-demand-3 book root (capacity before) mode passes lent said message bytes) d
+      read-prepared-safe r d = call-demand-3 book (drop 4 message) root _ before after r (prepared-demand-3 book root (capacity before) mode only passes lent said message bytes) d
 
       pub sinotayam-read-prepared-safe : (r : ℕ) → Returned (readPrepared book (preparedFrom book lent) root message mode (capacity before)) before after r → SafeWord book (drop 4 message) root before after r
-      sinotayam-read-prepared-safe r d = word-demand-3 book (drop 4 message) root _ before after r (prepared-demand-3 book root (capacity before) mode passes lent said message bytes) d
+      sinotayam-read-prepared-safe r d = word-demand-3 book (drop 4 message) root _ before after r (prepared-demand-3 book root (capacity before) mode only passes lent said message bytes) d
 
   module _ (id s : List ℕ) (bytes : AreBytes s) where
     pub read-data-safe : (r : Answer) → Settled (readDataOf book root id s mode (capacity before)) before after r → SafeCall book s root before after r
-    read-data-safe r d = call-demand-3 book s root _ before after r (data-demand-3 book root (capacity before) mode passes id s bytes) d
+    read-data-safe r d = call-demand-3 book s root _ before after r (data-demand-3 book root (capacity before) mode only passes id s bytes) d
 
     pub read-data-prepared-safe : (lent : List ℕ) → prepareOf book lent ≡ 0 → (r : Answer) → Settled (readDataPrepared book (preparedFrom book lent) root id s mode (capacity before)) before after r → SafeCall book s root before after r
-    read-data-prepared-safe lent said r d = call-demand-3 book s root _ before after r (data-prepared-demand-3 book root (capacity before) mode passes lent said id s bytes) d
+    read-data-prepared-safe lent said r d = call-demand-3 book s root _ before after r (data-prepared-demand-3 book root (capacity before) mode only passes lent said id s bytes) d

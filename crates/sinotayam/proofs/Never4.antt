@@ -62,14 +62,14 @@ module _ (book : List ℕ) (root : ℕ) (mode : Mode) (lent after : List ℕ) wh
 
 -- ---- the other calls promise these very numbers, to Rust and to C
 
-checked-not-four : {book : List ℕ} {root n : ℕ} → Checked book root n → n ≡ 4 → ⊥
+checked-not-four : {book : List ℕ} {root n : ℕ} {only : Bool} → Checked book root only n → n ≡ 4 → ⊥
 checked-not-four (fit good low p) e = omega arith
 checked-not-four (bad-book bad) e = omega arith
 checked-not-four (bad-root good out) e = omega arith
 checked-not-four (unfit good low p) e = omega arith
 
-pub check-never-4 : (book : List ℕ) (root : ℕ) → checkOf book root ≡ 4 → ⊥
-check-never-4 book root = checked-not-four (check-says book root)
+pub check-never-4 : (book : List ℕ) (root : ℕ) (only : Bool) → checkOf book root only ≡ 4 → ⊥
+check-never-4 book root only = checked-not-four (check-says book root only)
 
 pub prepare-never-4 : (book lent : List ℕ) → prepareOf book lent ≡ 4 → ⊥
 unfolding prepareOf

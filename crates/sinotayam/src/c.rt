@@ -1,5 +1,7 @@
 // The calls for C and Rust: include/sinotayam.h declares them. A slice is a pointer and a length there. Nothing is required of any.
 ghost use mathlib.Core.Path.{_≡_};
+ghost use mathlib.Core.Bool.{not};
+ghost use lib.Dec.{eqb};
 ghost use Rattle.table.specs.Rows.{capacity};
 ghost use Rattle.fit.specs.Check.{checkOf};
 ghost use Rattle.sinotayam.specs.Answer.{codeOf, modeOf, packed, Returned};
@@ -49,12 +51,12 @@ pub extern "C" fn sinotayam_read(
     pack(read(book, root as usize, message, mode, table))
 }
 
-// The type check: 0, 8, 9 or 16.
+// The type check: 0, 8, 9 or 16. The last number: 0 for a type that is used with any encoding, anything else for one that is used with XCDR2 only.
 #[no_mangle]
-pub extern "C" fn sinotayam_check(book: &[u8], root: u16) -> u8
-    ensures { λ r. ⌜ r ≡ checkOf (now (book .entry)) root ⌝ }
+pub extern "C" fn sinotayam_check(book: &[u8], root: u16, only_xcdr2: u8) -> u8
+    ensures { λ r. ⌜ r ≡ checkOf (now (book .entry)) root (not (eqb «only_xcdr2» 0)) ⌝ }
 {
-    fit::check(book, root as usize)
+    fit::check(book, root as usize, !(only_xcdr2 == 0))
 }
 
 #[no_mangle]

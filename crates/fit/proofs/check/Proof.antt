@@ -1,26 +1,20 @@
 -- `fit::check` meets its contract, by one law for each number. Assumes nothing.
-use Rattle.fit.proofs.Checking.{check-book, check-root, root-small, check-fit, check-unfit}
+use Rattle.fit.proofs.Checking.{judge-few, check-book, check-root, root-small, check-fit, check-unfit}
 use borrow.Author.Needs.{needs}
 use Rattle.fit.proofs.check.Statement.{statement}
 use Rattle.fit.proofs.check.Tie as tie
 
-judge-requires : tie.Need-judge-requires
-judge-requires c κs = search needs
+slice-aggregate-judge-into : tie.Need-slice-aggregate-judge-into
+slice-aggregate-judge-into c = search needs
+
+judge-into-requires : tie.Need-judge-into-requires
+judge-into-requires c κs = search needs
 
 returns : tie.Need-returns
 returns c = search (needs, check-book)
 
-type-count-requires : tie.Need-type-count-requires
-type-count-requires c κs = search needs
-
 returns-2 : tie.Need-returns-2
 returns-2 c = search (needs, check-root)
-
-slice-aggregate-index : tie.Need-slice-aggregate-index
-slice-aggregate-index c = search needs
-
-index-requires : tie.Need-index-requires
-index-requires c κs = search needs
 
 sub-fits-by : tie.Need-sub-fits-by
 sub-fits-by c = search needs
@@ -29,7 +23,7 @@ part-fits-by-start : tie.Need-part-fits-by-start
 part-fits-by-start c = search needs
 
 part-fits-by-end : tie.Need-part-fits-by-end
-part-fits-by-end c = search needs
+part-fits-by-end c = search (needs, judge-few _ _ (c .before .before .before .before .judge-into .ensures .0))
 
 fits-by-requires : tie.Need-fits-by-requires
 fits-by-requires c κs = search (needs, root-small)
@@ -44,12 +38,10 @@ pub check-spec : {M : Type 1} → statement M
 check-spec =
     tie.close
     (tie.spec
-    judge-requires
+    slice-aggregate-judge-into
+    judge-into-requires
     returns
-    type-count-requires
     returns-2
-    slice-aggregate-index
-    index-requires
     sub-fits-by
     part-fits-by-start
     part-fits-by-end

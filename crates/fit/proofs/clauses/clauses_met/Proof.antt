@@ -16,6 +16,9 @@ base-supported-requires c κs = search needs
 discriminator-fits-requires : tie.Need-discriminator-fits-requires
 discriminator-fits-requires c κs = search needs
 
+ids-fit-requires : tie.Need-ids-fit-requires
+ids-fit-requires c κs = search needs
+
 returns : tie.Need-returns
 returns c = search (needs, all-met)
 
@@ -27,4 +30,5 @@ clauses-met-spec =
     element-supported-requires
     base-supported-requires
     discriminator-fits-requires
+    ids-fit-requires
     returns)
