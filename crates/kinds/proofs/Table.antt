@@ -42,6 +42,10 @@ primitive-align k p h =
     (leb→le 1 (alignOf k) (both-left (leb 1 (alignOf k)) (leb (alignOf k) 8) t), leb→le (alignOf k) 8 (both-right (leb 1 (alignOf k)) (leb (alignOf k) 8) t))
 
 -- "(FLOAT128 to 16)"
+pub boolean-align : alignOf 1 ≡ 1
+unfolding alignOf
+boolean-align = refl
+
 pub float128-align : alignOf 11 ≡ 16
 unfolding alignOf
 float128-align = refl

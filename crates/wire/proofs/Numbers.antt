@@ -9,7 +9,7 @@ use lib.Dec.{lit<}
 use borrow.Author.Tests.{ne-eqb}
 use native.Mathlib.Nat.{add-zero}
 use Rattle.kinds.specs.Kinds.{alignOf}
-use Rattle.kinds.proofs.Table.{float128-align}
+use Rattle.kinds.proofs.Table.{boolean-align, float128-align}
 use Rattle.wire.specs.Place.{cursorAt, moved, alignmentOf, paddingOf, seekTo, alignTo}
 use Rattle.wire.specs.Number.{numberAt, onBytes, numberHere, onAligned, readNumber, halvesOf, float128Here, readFloat128, booleanIn, onByte, readBoolean, afterNumber}
 use Rattle.wire.specs.Code.Reads.{HereIs, ReadIs}
@@ -104,14 +104,23 @@ pub boolean-bad : (v : ℕ) (c : Cursor) → (v ≡ 0 → ⊥) → (v ≡ 1 → 
 unfolding booleanIn
 boolean-bad v c p q = rw (ne-eqb v 0 p, ne-eqb v 1 q)
 
-module _ (s : List ℕ) (set : Settings) (c : Cursor) (n : Number) (is : ReadIs s set c 1 n) where
+module _ (s : List ℕ) (set : Settings) (c : Cursor) (n : Number) (w : ℕ) (wide : w ≡ alignOf 1) (is : ReadIs s set c w n) where
+  one : n ≡ readNumber s set c 1
+  one = is .is ∙ ap (readNumber s set c) (wide ∙ boolean-align)
+
   pub boolean-short : (x : Shortage) → n ≡ number.Short x → boolean.Short x ≡ readBoolean s set c
   unfolding readBoolean onByte
-  boolean-short x e = rw (sym (is .is) ∙ e)
+  boolean-short x e = rw (sym one ∙ e)
 
   pub boolean-got : (v : ℕ) (d : Cursor) (b : Boolean) → n ≡ number.Got v d → b ≡ booleanIn v d → b ≡ readBoolean s set c
   unfolding readBoolean onByte
-  boolean-got v d b e f = rw (sym (is .is) ∙ e) f
+  boolean-got v d b e f = rw (sym one ∙ e) f
+
+pub boolean-some : (w : ℕ) → w ≡ alignOf 1 → 0 < w
+boolean-some w e = rw (e ∙ boolean-align) (lit< tt)
+
+pub boolean-small : (w : ℕ) → w ≡ alignOf 1 → w ≤ 8
+boolean-small w e = let f = e ∙ boolean-align in omega arith
 
 -- What a finished read tells the loops above: it moved on by the width at least, not past the end, and kept the origin.
 pub record Moved (s : List ℕ) (c : Cursor) (w : ℕ) (d : Cursor) : Type 0 where

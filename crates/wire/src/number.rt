@@ -10,6 +10,7 @@ use crate::cursor::Place;
 use crate::cursor::Shortage;
 use crate::settings::ByteOrder;
 use crate::settings::Settings;
+use kinds::names::BOOLEAN;
 use kinds::names::FLOAT128;
 
 pub enum Number {
@@ -255,7 +256,8 @@ fn boolean_in(v: u64, c: Cursor) -> Boolean
 pub fn read_boolean(s: &[u8], set: Settings, at: Cursor) -> Boolean
     ensures { λ r. ⌜ r ≡ readBoolean (now (s .entry)) set at ⌝ }
 {
-    let byte = read_number(s, set, at, 1);
+    let width = kinds::align_of(BOOLEAN) as usize;
+    let byte = read_number(s, set, at, width);
     match byte {
         Number::Short(x) => Boolean::Short(x),
         Number::Got(v, c) => boolean_in(v, c),
