@@ -63,12 +63,12 @@ unsafe fn stack_of(_: extern "C" fn(*mut Side), _: *mut Side) -> u64 {
 fn rows_of(c: &Case) -> Result<usize, u8> {
     let (mut table, mut again) = (vec![!0; 4 * 20_000], vec![!0; 4 * 20_000]);
     let mut index = [0; 65];
-    let answer = port::read(&c.book, c.root, &c.message, &mut table);
+    let answer = port::read(&c.book, c.root, &c.message, c.standard, &mut table);
     assert_eq!(port::prepare(&c.book, &mut index), 0, "{}: prepare", c.name);
-    assert_eq!(port::read_prepared(&c.book, &index, c.root, &c.message, &mut again), answer, "{}: prepared", c.name);
+    assert_eq!(port::read_prepared(&c.book, &index, c.root, &c.message, c.standard, &mut again), answer, "{}: prepared", c.name);
     assert!(table == again, "{}: the prepared call leaves another table", c.name);
     let rows: Vec<[u64; 4]> = table.chunks(4).take((answer >> 8) as usize).map(|r| r.try_into().unwrap()).collect();
-    let said = Oracle::new(&c.types).read(c.root, &c.message);
+    let said = Oracle::new(&c.types).read(c.root, &c.its_own);
     if let Some(why) = agree::differs(&said, answer as u8, &rows, &c.message) {
         panic!("{}: {why}", c.name);
     }
@@ -80,7 +80,7 @@ fn rows_of(c: &Case) -> Result<usize, u8> {
 
 fn whole(c: &'static Case, name: &'static str, rows: usize) -> Side {
     let mut table = vec![0; 4 * rows];
-    let call = move || drop(black_box(port::read(black_box(&c.book), c.root, black_box(&c.message), &mut table)));
+    let call = move || drop(black_box(port::read(black_box(&c.book), c.root, black_box(&c.message), c.standard, &mut table)));
     Side { message: c.name, name, call: Box::new(call) }
 }
 
@@ -88,14 +88,14 @@ fn prepared(c: &'static Case, name: &'static str, rows: usize) -> Side {
     let mut table = vec![0; 4 * rows];
     let mut index = [0; 65];
     port::prepare(&c.book, &mut index);
-    let call = move || drop(black_box(port::read_prepared(black_box(&c.book), &index, c.root, black_box(&c.message), &mut table)));
+    let call = move || drop(black_box(port::read_prepared(black_box(&c.book), &index, c.root, black_box(&c.message), c.standard, &mut table)));
     Side { message: c.name, name, call: Box::new(call) }
 }
 
 /// The types are built once; what the crate hands back is freed in the call, for the memory is its result.
 fn its_own(c: &'static Case) -> Side {
     let root = Oracle::new(&c.types).root(c.root);
-    let call = move || drop(black_box(&deserialize_top_level_type(black_box(root), black_box(&c.message))));
+    let call = move || drop(black_box(&deserialize_top_level_type(black_box(root), black_box(&c.its_own))));
     Side { message: c.name, name: "crate", call: Box::new(call) }
 }
 

@@ -9,6 +9,10 @@ pub struct Case {
     pub book: Vec<u8>,
     pub root: u16,
     pub message: Vec<u8>,
+    /// The message as the crate reads it: in the standard's mode the same values, written in the crate's way.
+    pub its_own: Vec<u8>,
+    /// The mode's number.
+    pub standard: u8,
 }
 
 const BOOLEAN: u8 = 1;
@@ -29,6 +33,10 @@ const D_CDR2_BE: u8 = 8;
 const D_CDR2_LE: u8 = 9;
 const PL_CDR2_BE: u8 = 10;
 const PL_CDR2_LE: u8 = 11;
+
+// The modes, as the calls take them.
+const CRATE: u8 = 0;
+const STANDARD: u8 = 1;
 
 /// Types as they are added: a plain one once, all others each time.
 #[derive(Default)]
@@ -63,8 +71,14 @@ impl Types {
     }
 
     fn case(self, name: &'static str, identifier: u8, value: Value) -> Case {
+        self.case_in(name, identifier, value, CRATE)
+    }
+
+    fn case_in(self, name: &'static str, identifier: u8, value: Value, standard: u8) -> Case {
         let root = self.0.len() as u16 - 1;
-        Case { name, book: encode(&self.0), message: message(&self.0, root, &value, identifier), types: self.0, root }
+        let written = |standard| message(&self.0, root, &value, identifier, standard == STANDARD);
+        let (message, its_own) = (written(standard), written(CRATE));
+        Case { name, book: encode(&self.0), message, its_own, standard, types: self.0, root }
     }
 }
 
@@ -102,7 +116,7 @@ fn heartbeat() -> Case {
 }
 
 /// A battery pack: nested structures, texts, an enum, a bitmask, and lists of numbers and of structures.
-fn pack(name: &'static str, ext: u8, identifier: u8) -> Case {
+fn pack(name: &'static str, ext: u8, identifier: u8, standard: u8) -> Case {
     let mut t = Types::default();
     let [u8s, u16s, u32s, f32s, bools] = [UINT8, UINT16, UINT32, FLOAT32, BOOLEAN].map(|k| t.plain(k));
     let (string, time) = (t.plain(STRING8), t.plain(INT64));
@@ -126,7 +140,7 @@ fn pack(name: &'static str, ext: u8, identifier: u8) -> Case {
         Of((0..16).map(|i| N(0xa0 + i)).collect()),
         text("balanced, next service in 40 h at depot 7, bay 3"),
     ]);
-    t.case(name, identifier, value)
+    t.case_in(name, identifier, value, standard)
 }
 
 /// Texts of about 60 bytes, one in eight with letters beyond ASCII.
@@ -158,7 +172,7 @@ fn waveform() -> Case {
 }
 
 /// Sixteen structures, each inside the other, with a number before and after.
-fn nested(name: &'static str, ext: u8, identifier: u8) -> Case {
+fn nested(name: &'static str, ext: u8, identifier: u8, standard: u8) -> Case {
     let mut t = Types::default();
     let number = t.plain(UINT32);
     let mut inner = t.structure(ext, &[number]);
@@ -167,7 +181,7 @@ fn nested(name: &'static str, ext: u8, identifier: u8) -> Case {
         inner = t.structure(ext, &[number, inner, number]);
         value = Of(vec![N(depth), value, N(depth)]);
     }
-    t.case(name, identifier, value)
+    t.case_in(name, identifier, value, standard)
 }
 
 /// A list of structures as long as fits in `bytes`.
@@ -187,17 +201,23 @@ fn sized(name: &'static str, bytes: usize) -> Case {
 pub fn all() -> Vec<Case> {
     vec![
         heartbeat(),
-        pack("pack F1 LE", FINAL, CDR_LE),
-        pack("pack F1 BE", FINAL, CDR_BE),
-        pack("pack A2 LE", APPENDABLE, D_CDR2_LE),
-        pack("pack A2 BE", APPENDABLE, D_CDR2_BE),
-        pack("pack M2 LE", MUTABLE, PL_CDR2_LE),
-        pack("pack M2 BE", MUTABLE, PL_CDR2_BE),
-        pack("pack M1 LE", MUTABLE, PL_CDR_LE),
+        pack("pack F1 LE", FINAL, CDR_LE, CRATE),
+        pack("pack F1 BE", FINAL, CDR_BE, CRATE),
+        pack("pack A2 LE", APPENDABLE, D_CDR2_LE, CRATE),
+        pack("pack A2 BE", APPENDABLE, D_CDR2_BE, CRATE),
+        pack("pack M2 LE", MUTABLE, PL_CDR2_LE, CRATE),
+        pack("pack M2 BE", MUTABLE, PL_CDR2_BE, CRATE),
+        pack("pack M1 LE", MUTABLE, PL_CDR_LE, CRATE),
         log(),
         waveform(),
-        nested("nest F1 LE", FINAL, CDR_LE),
-        nested("nest M2 LE", MUTABLE, PL_CDR2_LE),
+        nested("nest F1 LE", FINAL, CDR_LE, CRATE),
+        nested("nest M2 LE", MUTABLE, PL_CDR2_LE, CRATE),
+        pack("pack A2 LE S", APPENDABLE, D_CDR2_LE, STANDARD),
+        pack("pack A2 BE S", APPENDABLE, D_CDR2_BE, STANDARD),
+        pack("pack M2 LE S", MUTABLE, PL_CDR2_LE, STANDARD),
+        pack("pack M2 BE S", MUTABLE, PL_CDR2_BE, STANDARD),
+        nested("nest A2 LE S", APPENDABLE, D_CDR2_LE, STANDARD),
+        nested("nest M2 LE S", MUTABLE, PL_CDR2_LE, STANDARD),
         sized("1 KB", 1 << 10),
         sized("4 KB", 1 << 12),
         sized("16 KB", 1 << 14),

@@ -56,18 +56,15 @@ mod c {
     }
 }
 
-/// The crate's mode: the crate itself stands beside the port.
-const CRATE: u8 = 0;
-
-pub fn read(book: &[u8], root: u16, message: &[u8], table: &mut [u64]) -> u64 {
-    unsafe { c::sinotayam_read(book.as_ptr(), book.len(), root, message.as_ptr(), message.len(), CRATE, table.as_mut_ptr(), table.len()) }
+pub fn read(book: &[u8], root: u16, message: &[u8], standard: u8, table: &mut [u64]) -> u64 {
+    unsafe { c::sinotayam_read(book.as_ptr(), book.len(), root, message.as_ptr(), message.len(), standard, table.as_mut_ptr(), table.len()) }
 }
 
 pub fn prepare(book: &[u8], index: &mut [u32]) -> u8 {
     unsafe { c::sinotayam_prepare(book.as_ptr(), book.len(), index.as_mut_ptr(), index.len()) }
 }
 
-pub fn read_prepared(book: &[u8], index: &[u32], root: u16, message: &[u8], table: &mut [u64]) -> u64 {
+pub fn read_prepared(book: &[u8], index: &[u32], root: u16, message: &[u8], standard: u8, table: &mut [u64]) -> u64 {
     unsafe {
         c::sinotayam_read_prepared(
             book.as_ptr(),
@@ -77,7 +74,7 @@ pub fn read_prepared(book: &[u8], index: &[u32], root: u16, message: &[u8], tabl
             root,
             message.as_ptr(),
             message.len(),
-            CRATE,
+            standard,
             table.as_mut_ptr(),
             table.len(),
         )

@@ -23,7 +23,7 @@ pub fn all() -> Vec<Case> {
             [name, message] => {
                 let (root, book) = books[read_type(name)].clone();
                 let types = decode(&book).expect("a good book");
-                cases.push(Case { name, types, book, root, message: bytes(message) });
+                cases.push(Case { name, types, book, root, message: bytes(message), its_own: bytes(message), standard: 0 });
             }
             _ => panic!("trucks.txt: {line}"),
         }

@@ -1,5 +1,5 @@
 // A value written as a message, in each encoding that the crate reads back: a list of primitives in a Mutable type of XCDR2 has no length
-// of its own, as the crate wants it.
+// of its own, as the crate wants it; or as the standard has it, with one.
 use crate::book::{is_primitive, width, Member, Type, APPENDABLE, FINAL};
 
 pub enum Value {
@@ -14,13 +14,14 @@ pub struct Writer<'a> {
     types: &'a [Type],
     big: bool,
     xcdr2: bool,
+    standard: bool,
     out: Vec<u8>,
     origin: usize,
 }
 
 /// The message of a value of type `root`; `identifier` is the second byte of the message.
-pub fn message(types: &[Type], root: u16, value: &Value, identifier: u8) -> Vec<u8> {
-    let mut w = Writer { types, big: identifier % 2 == 0, xcdr2: identifier > 3, out: Vec::new(), origin: 0 };
+pub fn message(types: &[Type], root: u16, value: &Value, identifier: u8, standard: bool) -> Vec<u8> {
+    let mut w = Writer { types, big: identifier % 2 == 0, xcdr2: identifier > 3, standard, out: Vec::new(), origin: 0 };
     w.value(root, value);
     [vec![0, identifier, 0, 0], w.out].concat()
 }
@@ -141,7 +142,7 @@ impl Writer<'_> {
         }
         self.number(4, lc(4));
         self.measured(4, |w| match v {
-            Value::Of(vs) if t.kind == 25 && is_primitive(w.types[t.element as usize].kind) => w.elements(t, vs),
+            Value::Of(vs) if !w.standard && t.kind == 25 && is_primitive(w.types[t.element as usize].kind) => w.elements(t, vs),
             _ => w.value(m.ty, v),
         });
     }
