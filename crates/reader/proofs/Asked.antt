@@ -63,6 +63,10 @@ module _ (b : List ℕ) (at n : ℕ) where
   unfolding typeOf
   kind-there e = e
 
+  pub extensibility-there : n ≡ byte (from b at) 3 → n ≡ typeAt b at .extensibility
+  unfolding typeOf
+  extensibility-there e = e
+
   pub bounded-there : n ≡ byte (from b at) 5 → eqb n 1 ≡ bounded (typeAt b at)
   unfolding typeOf bounded
   bounded-there e = rw e
@@ -99,3 +103,7 @@ module _ (v : Version) (m : Mode) (types : List BookType) (t : BookType) where
   pub length-own : v ≡ Xcdr2 → m ≡ Standard → false ≡ byLength v m types t
   unfolding byLength
   length-own e f = rw (e, f)
+
+-- what the code looks up in an arm is of the kind that it is
+pub by-arm : (rule : ℕ → ℕ) (kind k : ℕ) → kind ≡ k → (y : ℕ) → y ≡ rule k → y ≡ rule kind
+by-arm rule kind k e y is = rw e is

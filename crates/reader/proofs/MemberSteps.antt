@@ -1,11 +1,14 @@
 -- Laws of members: what each return shows. Assumes nothing.
-use Prim.Native.Nat.{ℕ, _+_, _-_}
+use Prim.Native.Nat.{ℕ, _+_, _-_, _<_}
 use mathlib.Core.Path.{_≡_, refl, sym, ap, _∙_}
 use mathlib.Core.Bool.{Bool, true, false}
 use mathlib.Core.List.{List, []}
 use native.Mathlib.Nat.{add-zero}
 use lib.ListN.{length}
-use lib.Dec.{eqb}
+use lib.Dec.{T, eqb, leb, leb→le}
+use native.Mathlib.Omega.{arith}
+use Rattle.ground.specs.Choice.{pick, both, _‥_, within}
+use Rattle.ground.proofs.Tests.{both-left}
 use Rattle.wire.specs.declared.cursor.Cursor.{Cursor}
 use Rattle.wire.specs.declared.cursor.Shortage.{Shortage}
 use Rattle.wire.specs.declared.settings.Settings.{Settings}
@@ -26,15 +29,16 @@ use Rattle.wire.specs.declared.number.Boolean.{Boolean}
 use Rattle.wire.specs.declared.number.Boolean.the-variants as boolean
 use Rattle.wire.specs.Number.{readBoolean}
 use Rattle.wire.specs.Place.{broughtBack}
-use Rattle.book.specs.Types.{BookType, Member, optional, typeNo}
+use Rattle.book.specs.Types.{BookType, Member, bounded, optional, typeNo}
 use Rattle.book.specs.Places.{memberAt, typeAt, typesBy, PlaceOf}
 use Rattle.lookup.specs.Member.{locate}
 use Rattle.lookup.specs.declared.member.Located.{Located}
 use Rattle.lookup.specs.declared.member.Located.the-variants as located
 use Rattle.table.specs.declared.out.Refusal.the-variants.{InvalidData}
-use Rattle.kinds.specs.Kinds.{opens}
-use Rattle.reader.specs.Value.{Nest, isSequence, elementsOf, valueOf}
+use Rattle.kinds.specs.Kinds.{opens, unsupportedMember, bitmaskStored, storedByBound}
+use Rattle.reader.specs.Value.{Nest, isSequence, readAs, elementsOf, valueOf}
 use Rattle.reader.specs.Code.Run.{runOf}
+use Rattle.reader.proofs.RunSteps.{run-single}
 use Rattle.reader.proofs.ValueSteps.{opened-kind, value-opens}
 use Rattle.reader.specs.Member.{byLength, elementCount, foundBy, foundValue, foundOf, onLocated, mmemberOf, onPresent, optionalBy, fmemberBy, fmemberOf}
 
@@ -43,6 +47,32 @@ unfolding byLength isSequence
 no-length types Xcdr1 m t e = refl
 no-length types Xcdr2 Crate t e = rw e
 no-length types Xcdr2 Standard t e = refl
+
+opened-some : (k : ℕ) → opens k ≡ true → 0 < k
+unfolding opens
+opened-some k e =
+    let i : T (both (leb 21 k) (leb k 23)) = rw e tt in
+    let low = leb→le 21 k (both-left (leb 21 k) (leb k 23) i) in
+    omega (arith, low)
+
+-- a bitmask is read as a number, which opens nothing
+unopened : (x y z : Bool) → opens (pick x 13 (pick y 6 (pick z 7 8))) ≡ false
+unfolding opens
+unopened true y z = refl
+unopened false true z = refl
+unopened false false true = refl
+unopened false false false = refl
+
+unmasked : (t : BookType) → opens (readAs t) ≡ true → t .kind ≡ readAs t
+unfolding readAs bitmaskStored storedByBound
+unmasked t = go (eqb (t .kind) 19)
+  where
+    go : (x : Bool) → opens (pick x (bitmaskStored (bounded t) (t .bound)) (t .kind)) ≡ true → t .kind ≡ pick x (bitmaskStored (bounded t) (t .bound)) (t .kind)
+    go true o =
+        let l = pick (bounded t) (t .bound) 32 in
+        let h : T (opens (bitmaskStored (bounded t) (t .bound))) = rw o tt in
+        absurd (rw (unopened (within (1 ‥ 8) l) (within (9 ‥ 16) l) (within (17 ‥ 32) l)) at h)
+    go false o = refl
 
 module _ (b index s : List ℕ) (set : Settings) (nest : Nest) (p : ℕ) (c : Cursor) (t : List ℕ) (n : ℕ) where
   abbrev m : Member
@@ -81,6 +111,22 @@ module _ (b index s : List ℕ) (set : Settings) (nest : Nest) (p : ℕ) (c : Cu
         let z : eqb k 25 ≡ false = opened-kind k (sym g ∙ h) .2 in
         let e : byLength (set .version) (set .mode) (typesBy b index) (typeNo (typesBy b index) (m .type)) ≡ false = ap (byLength (set .version) (set .mode) (typesBy b index)) (sym typed) ∙ no-length (typesBy b index) (set .version) (set .mode) (typeAt b q) (ap (λ (x : ℕ). eqb x 25) (sym kind) ∙ z) in
         is-same (ap (λ (z : Bool). foundBy (typesBy b index) s set nest z m length c (room t n)) e ∙ rw (← type, ← named)) (value-opens b index s set nest ty i c t n q k at kind o g h u r d)
+
+  -- of a kind that opens, by the kind that it is read as
+  module _ (length ty i k : ℕ) (type : ty ≡ memberAt b p .type) (named : i ≡ memberAt b p .id) (read : 0 < k → k ≡ readAs (typeNo (typesBy b index) (memberAt b p .type))) where
+    abbrev its : BookType
+    its = typeNo (typesBy b index) (m .type)
+
+    pub found-opened : (o : Bool) → o ≡ opens k → o ≡ true → (u : List ℕ) (r : Out) → Done (runOf nest s ty i 1 0 c (room t n)) n t u r → Done (foundValue (typesBy b index) s set nest m length c (room t n)) n t u r
+    unfolding foundValue foundBy valueOf
+    found-opened o g h u r d =
+        let y : opens k ≡ true = sym g ∙ h in
+        let w = opened-kind k y in
+        let a : k ≡ readAs its = read (opened-some k y) in
+        let e : its .kind ≡ k = unmasked its (ap opens (sym a) ∙ y) ∙ sym a in
+        let l : byLength (set .version) (set .mode) (typesBy b index) its ≡ false = no-length (typesBy b index) (set .version) (set .mode) its (ap (λ (x : ℕ). eqb x 25) e ∙ w .2) in
+        let v : valueOf (typesBy b index) s set nest (m .type) (m .id) c (room t n) ≡ nest s (m .type) (m .id) c (room t n) = rw (ap (λ (x : ℕ). eqb x 0) e ∙ w .0, ap unsupportedMember e ∙ w .1, ap opens e ∙ y) in
+        is-same (ap (λ (z : Bool). foundBy (typesBy b index) s set nest z m length c (room t n)) l ∙ v ∙ rw (← type, ← named) (sym (run-single nest s ty i c (room t n)))) d
 
   -- a member by its lookup
   module _ (i : ℕ) (named : i ≡ memberAt b p .id) (g : Located) (is : g ≡ locate s set i c) where

@@ -26,9 +26,13 @@ use Rattle.lookup.specs.declared.ahead.Hint.{Hint}
 use Rattle.lookup.specs.Code.Ahead.{HeaderAhead}
 use Rattle.table.specs.Rows.{room}
 use Rattle.table.specs.Outcome.{read}
+use Rattle.table.specs.declared.out.Out.{Out}
+use Rattle.table.specs.declared.out.Out.the-variants.{Read}
+use Rattle.table.specs.Code.Outcome.{Done}
+use Rattle.wire.specs.Place.{cursorAt}
 use Rattle.values.specs.Scalar.{scalarOf}
 use Rattle.values.specs.Code.Quick.{isTaken, Quickly}
-use Rattle.values.proofs.Quickly.{quick-not, quick-as, quick-next}
+use Rattle.values.proofs.Quickly.{quick-not, quick-as, quick-next, quick-done, quick-none}
 use Rattle.reader.specs.Value.{Nest, isSequence, primitiveElement, readAs, valueOf}
 use Rattle.reader.specs.Member.{byLength, foundBy, foundValue, fmemberBy, fmemberOf}
 
@@ -107,13 +111,14 @@ module _ (types : List BookType) (s : List ℕ) (set : Settings) (nest : Nest) (
 pub kind-here : (b index : List ℕ) (ty q k : ℕ) → PlaceOf b index ty q → k ≡ readAs (typeAt b q) → 0 < k → k ≡ readAs (typeNo (typesBy b index) ty)
 kind-here b index ty q k at is h = is ∙ ap readAs (at .is)
 
+-- .. and that of a member
+pub member-kind : (b index : List ℕ) (p ty k : ℕ) → ty ≡ memberAt b p .type → (0 < k → k ≡ readAs (typeNo (typesBy b index) ty)) → 0 < k → k ≡ readAs (typeNo (typesBy b index) (memberAt b p .type))
+member-kind b index p ty k e is h = is h ∙ ap (λ (x : ℕ). readAs (typeNo (typesBy b index) x)) e
+
 -- what the quick way took is the member's
 module _ (b index s : List ℕ) (set : Settings) (p : ℕ) (c : Cursor) (t : List ℕ) (n : ℕ) where
   pub plain-none : (nest : Nest) → Quickly (fmemberOf (typesBy b index) s set nest (memberAt b p) c (room t n)) 1 n (c .origin) t t 0
   plain-none nest = quick-not _ 1 n (c .origin) t
-
-  pub found-none : (nest : Nest) (length : ℕ) → Quickly (foundValue (typesBy b index) s set nest (memberAt b p) length c (room t n)) 1 n (c .origin) t t 0
-  found-none nest length = quick-not _ 1 n (c .origin) t
 
   module _ (ty k i : ℕ) (type : ty ≡ memberAt b p .type) (read : 0 < k → k ≡ readAs (typeNo (typesBy b index) ty)) (named : i ≡ memberAt b p .id)
       (u : List ℕ) (r : ℕ) (d : Quickly (scalarOf s set k i c (room t n)) 1 n (c .origin) t u r) (takes : 0 < r → isTaken k ≡ true) where
@@ -136,6 +141,14 @@ module _ (b index s : List ℕ) (set : Settings) (p : ℕ) (c : Cursor) (t : Lis
       where
         found-is : isTaken k ≡ true → foundValue (typesBy b index) s set nest (memberAt b p) length c (room t n) ≡ scalarOf s set k i c (room t n)
         found-is y = rw (← type, taken-other (typesBy b index) s set nest ty i c (room t n) k y (read-as y) (set .version) (set .mode)) (rw type (value-is y nest))
+
+-- .. or it left all as it was
+module _ (types : List BookType) (s : List ℕ) (set : Settings) (nest : Nest) (m : Member) (c : Cursor) (t : List ℕ) (n : ℕ) (u : List ℕ) (r : ℕ) (q : (f : Nest) → Quickly (fmemberOf types s set f m c (room t n)) 1 n (c .origin) t u r) where
+  pub plain-quick : 0 < r → (d : Cursor) → d ≡ cursorAt r (c .origin) → Done (fmemberOf types s set nest m c (room t n)) n t u (Read d (n + 1))
+  plain-quick h d e = rw e (quick-done 1 r h (q nest))
+
+  pub plain-left : r ≤ 0 → (v : List ℕ) (x : Out) → Done (fmemberOf types s set nest m c (room u n)) n u v x → Done (fmemberOf types s set nest m c (room t n)) n t v x
+  plain-left h v x d = rw (quick-none _ 1 n (c .origin) t u r h (q nest)) at d
 
 -- a row that was written has its place
 pub plain-next : (types : List BookType) (s : List ℕ) (set : Settings) (m : Member) (c : Cursor) (t : List ℕ) (n : ℕ) (u : List ℕ) (r : ℕ)

@@ -4,6 +4,7 @@ use Rattle.values.proofs.Scalars.{row-next}
 use Rattle.reader.proofs.RunSteps.{run-start, run-end}
 use Rattle.reader.proofs.ValueSteps.{elements-unsupported, elements-full, elements-opened, elements-primitives, elements-others, value-none, value-unsupported, value-nested, value-list, value-scalar, list-short, list-past, list-uncounted, list-there, list-rest}
 use Rattle.reader.proofs.MemberSteps.{found-length, found-value, found-opens, mmember-short, mmember-absent, mmember-read, mmember-fell, mmember-refused, optional-looked, optional-short, optional-bad, optional-absent, optional-present, fmember-optional, fmember-opens, fmember-value}
+use Rattle.reader.proofs.PlainSteps.{plain-quick, plain-left}
 use Rattle.reader.proofs.StructureSteps.{fmembers-start, fmembers-end}
 use Rattle.reader.proofs.LookedSteps.{mstruct-short, mstruct-members, mstruct-hint}
 use Rattle.reader.proofs.UnionSteps.{chosen-absent, chosen-unfit, chosen-none, chosen-looked, chosen-plain, union-empty, union-short, union-refused, union-read, discriminator-looked, discriminator-plain}
@@ -19,13 +20,15 @@ pub ruleset fstruct-laws = (fmembers-start, fmembers-end)
 
 pub ruleset mmembers-laws = (row-next)
 
-pub ruleset union-type-laws = (union-empty, union-short, union-refused, union-read)
+pub ruleset parts-laws = (union-empty, union-short, union-refused, union-read)
 
 pub ruleset first-laws = (discriminator-looked, discriminator-plain)
 
 pub ruleset chosen-laws = (fmember-optional, fmember-value, chosen-absent, chosen-unfit, chosen-none, chosen-looked, chosen-plain)
 
-pub ruleset fmember-laws = (fmember-optional, fmember-opens, fmember-value)
+pub ruleset fmember-laws = (plain-quick, plain-left)
+
+pub ruleset rest-laws = (fmember-optional, fmember-opens, fmember-value)
 
 pub ruleset option-laws = (optional-looked, optional-short, optional-bad, optional-absent, optional-present)
 

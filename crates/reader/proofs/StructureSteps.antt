@@ -1,10 +1,8 @@
--- Laws of the members of a Final or Appendable structure: in order, each in the quick way or as any other. Assumes nothing.
-use Prim.Native.Nat.{ℕ, _+_, _-_, _^_, _≤_, _<_}
-use mathlib.Core.Path.{_≡_, refl, sym, ap, _∙_}
+-- Laws of the members of a Final or Appendable structure: in order. Assumes nothing.
+use Prim.Native.Nat.{ℕ, _-_, _≤_, _<_}
+use mathlib.Core.Path.{_≡_, sym, ap, _∙_}
 use mathlib.Core.Bool.{Bool, true, false}
 use mathlib.Core.List.{List}
-use mir.Syntax.{w64}
-use mir.Val.{Fits}
 use lib.ListN.{length}
 use Rattle.wire.specs.declared.cursor.Cursor.{Cursor}
 use Rattle.wire.specs.declared.cursor.Shortage.{Shortage}
@@ -17,16 +15,12 @@ use Rattle.table.specs.Outcome.{Outcome, prepend, orEndIf}
 use Rattle.table.specs.Code.Outcome.{Done}
 use Rattle.table.proofs.Filling.{filled-none, room-used}
 use Rattle.table.proofs.Outcomes.{was-read, was-short, was-refused, end-read, end-ended, end-short, end-refused, Sofar, sofar-start, sofar-more, sofar-read, sofar-short, sofar-refused}
-use Rattle.wire.specs.Place.{cursorAt}
 use Rattle.book.specs.declared.member.Run.{Run}
 use Rattle.book.specs.Types.{BookType, Member}
 use Rattle.book.specs.Places.{memberAt, typeAt, listed, later, Started, After}
 use Rattle.book.proofs.Places.{run-more, run-none}
-use Rattle.values.specs.Code.Quick.{Quickly}
-use Rattle.values.proofs.Quickly.{quick-done, quick-none}
 use Rattle.reader.specs.Value.{Nest}
 use Rattle.reader.specs.Member.{fmemberOf}
-use Rattle.reader.proofs.PlainSteps.{plain-next}
 use Rattle.reader.specs.Structure.{absorbs, fmembersOf}
 
 -- members in order, with those that are left
@@ -79,17 +73,3 @@ module _ {types : List BookType} {s : List ℕ} {set : Settings} {nest : Nest} {
   pub fmembers-end : ms .left ≤ 0 → {d : Cursor} → d ≡ c → Done whole n t u (Read d m)
   unfolding fmembersOf
   fmembers-end l made = rw made (sofar-read (inv .so) (rw (run-none b ms l)) (filled-none u m))
-
-  -- the quick way took the member, or left it alone
-  module _ {d : Cursor} (made : d ≡ c) (v : List ℕ) (x : ℕ) (given : (f : Nest) → Quickly (fmemberOf types s set f (memberAt b (ms .at)) d (room u m)) 1 m (d .origin) u v x) where
-    q : (f : Nest) → Quickly (fmemberOf types s set f (memberAt b (ms .at)) c (room u m)) 1 m (c .origin) u v x
-    q f = rw made at (given f)
-
-    pub fmembers-quick : 0 < ms .left → 0 < x → {ns : Run} → After b ms ns → FinalSofar types s set nest b at whole n t v ns (cursorAt x (c .origin)) (m + 1)
-    fmembers-quick l h a = fmembers-turn l refl {r = Read (cursorAt x (c .origin)) (m + 1)} (quick-done 1 x h (q nest)) refl a
-
-    pub fmembers-next : 0 < x → length t < 2 ^ 64 → Fits w64 (m + 1)
-    fmembers-next h k = plain-next types s set (memberAt b (ms .at)) c u m v x q h (rw (← (inv .so .filled .long)) at k)
-
-    pub fmembers-still : x ≤ 0 → FinalSofar types s set nest b at whole n t v ms c m
-    fmembers-still none = rw (quick-none _ 1 m (c .origin) u v x none (q nest)) inv

@@ -1,10 +1,10 @@
 // The reading of a value: the Rust's XTypesDeserializer. Its functions call each other in a cycle, and the depth falls at each value
 // that is opened.
-ghost use Rattle.book.specs.Places.{typeAt, typesBy};
+ghost use Rattle.book.specs.Places.{memberAt, typeAt, typesBy};
 ghost use Rattle.table.specs.Rows.{room};
 ghost use Rattle.table.specs.Code.Outcome.{Done};
 ghost use Rattle.reader.specs.Nested.{reading};
-ghost use Rattle.reader.specs.Code.Cycle.{runIn, membersIn, bodyIn};
+ghost use Rattle.reader.specs.Code.Cycle.{runIn, membersIn, bodyIn, fmemberIn};
 ghost use Rattle.reader.specs.Nested.{isStructure, isMutable};
 ghost use Rattle.ground.specs.Choice.{both};
 ghost use mathlib.Core.Path.{_≡_};
@@ -18,6 +18,7 @@ pub mod union;
 pub mod value;
 
 use book::index::place;
+use book::member::head_at;
 use book::member::member_count;
 use kinds::names::ENUM;
 use kinds::names::STRUCTURE;
@@ -114,7 +115,7 @@ pub fn as_nested(
                 let rows = k - m;
                 let beneath = rows - 1;
                 let row = Row {
-                    kind: kinds::stored_of(kind) as u64,
+                    kind: types::row_kind(kind) as u64,
                     id: number,
                     a: ty as u64,
                     b: beneath as u64,
@@ -162,8 +163,9 @@ pub fn body(
                     }
                 };
             }
+            let kept = set.keeps_ends() & types::is_delimited(book, at);
             let out = inner(book, index, part, set, t, at, d, n, depth);
-            if set.keeps_ends() & types::is_delimited(book, at) {
+            if kept {
                 return types::stand_at(end, out);
             }
             out
@@ -190,5 +192,33 @@ pub fn inner(
         return structure::fstruct(book, index, s, set, t, at, c, n, depth);
     }
     let mutable = types::is_mutable(book, at);
-    union::union_type(book, index, s, set, t, at, mutable, c, n, depth)
+    union::parts(book, index, s, set, t, at, mutable, c, n, depth)
+}
+
+// A member of a Final or Appendable type that is not taken where it stands. A value that is opened is opened from here, which `value` would
+// do too: the compiler takes this into the structure's loop.
+pub fn rest(
+    book: &[u8],
+    index: &[u32],
+    s: &[u8],
+    set: Settings,
+    t: &mut [u64],
+    p: usize,
+    c: Cursor,
+    n: usize,
+    depth: usize,
+) -> Out
+    ensures { λ r. ⌜ Done (fmemberIn (now (book .entry)) (now (index .entry)) (now (s .entry)) set depth (memberAt (now (book .entry)) p) c (room (now (t .entry)) n)) n (now (t .entry)) (now (t .exit)) r ⌝ }
+{
+    let m = head_at(book, p);
+    if m.optional {
+        return member::option(book, index, s, set, t, p, c, n, depth);
+    }
+    let ty = m.ty;
+    let i = m.id as u64;
+    let at = place(book, index, ty);
+    if kinds::opens(types::kind_at(book, at)) {
+        return as_nested(book, index, s, set, t, ty, i, 1, c, n, depth);
+    }
+    value::value(book, index, s, set, t, ty, i, c, n, depth)
 }

@@ -4,13 +4,14 @@ ghost use Rattle.table.specs.Rows.{room};
 ghost use Rattle.table.specs.Code.Outcome.{Done};
 ghost use Rattle.reader.specs.Code.Cycle.{foundIn, mmemberIn, optionalIn, fmemberIn};
 use crate::as_nested;
+use crate::plain::take;
+use crate::rest;
 use crate::types::by_length;
 use crate::types::element_count;
 use crate::types::kind_at;
 use crate::value::elements;
 use crate::value::value;
 use book::index::place;
-use book::member::head_at;
 use book::member::id;
 use book::member::type_index;
 use book::types::element;
@@ -24,8 +25,7 @@ use wire::number::Boolean;
 use wire::settings::Settings;
 use wire::settings::Version;
 
-// A member of a Final or Appendable type. A value that is opened is opened from here, which `value` would do too: the compiler takes this
-// into the structure's loop.
+// A member of a Final or Appendable type: most are taken where they stand.
 pub fn fmember(
     book: &[u8],
     index: &[u32],
@@ -39,17 +39,11 @@ pub fn fmember(
 ) -> Out
     ensures { λ r. ⌜ Done (fmemberIn (now (book .entry)) (now (index .entry)) (now (s .entry)) set depth (memberAt (now (book .entry)) p) c (room (now (t .entry)) n)) n (now (t .entry)) (now (t .exit)) r ⌝ }
 {
-    let m = head_at(book, p);
-    if m.optional {
-        return option(book, index, s, set, t, p, c, n, depth);
+    let past = take(book, index, s, set, t, p, c, n);
+    if 0 < past {
+        return Out::Read(Cursor::new(past, c.origin), n + 1);
     }
-    let ty = m.ty;
-    let i = m.id as u64;
-    let at = place(book, index, ty);
-    if kinds::opens(kind_at(book, at)) {
-        return as_nested(book, index, s, set, t, ty, i, 1, c, n, depth);
-    }
-    value(book, index, s, set, t, ty, i, c, n, depth)
+    rest(book, index, s, set, t, p, c, n, depth)
 }
 
 // Serialization rules 19 and 20: an optional member of a Final or Appendable type. XCDR1 looks it up, XCDR2 asks a boolean.

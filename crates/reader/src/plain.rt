@@ -58,27 +58,15 @@ pub fn take(
     values::quick::value_at(s, set, t, kind, m.id as u64, c, n)
 }
 
-// The same for a member that was found, whose id is known, from its own data.
-pub fn take_found(
-    book: &[u8],
-    index: &[u32],
-    s: &[u8],
-    set: Settings,
-    t: &mut [u64],
-    p: usize,
-    i: u64,
-    c: Cursor,
-    n: usize,
-) -> usize
-    requires { ⌜ i ≡ memberAt (now book) p .id ⌝ }
-    ensures { λ r. ⌜ ((nest : Nest) (length : ℕ) → Quickly (foundValue (typesBy (now (book .entry)) (now (index .entry))) (now (s .entry)) set nest (memberAt (now (book .entry)) p) length c (room (now (t .entry)) n)) 1 n (c .origin) (now (t .entry)) (now (t .exit)) r) ⌝ }
+// The kind that the member at p is read as, once found; or 0.
+pub fn kind_found(book: &[u8], index: &[u32], p: usize) -> u8
+    ensures { λ r. ⌜ (0 < r → r ≡ readAs (typeNo (typesBy (now (book .entry)) (now (index .entry))) (memberAt (now (book .entry)) p .type))) ⌝ }
 {
     if !is_there(book, p, book::member::LAST) {
         return 0;
     }
     let m = head_there(book, p);
-    let kind = kind_of(book, index, m.ty);
-    values::quick::found_value_at(s, set, t, kind, i, c, n)
+    kind_of(book, index, m.ty)
 }
 
 // What the header where the hint says tells of the member at p, if that is there whole: so no byte of it is asked for again.

@@ -7,6 +7,7 @@ ghost use Rattle.table.specs.Code.Outcome.{Done};
 ghost use Rattle.wire.specs.Place.{alignTo};
 ghost use Rattle.lookup.specs.Code.Ahead.{TrueHint};
 ghost use Rattle.reader.specs.Code.Cycle.{fmembersIn, mmembersIn};
+use crate::as_nested;
 use crate::member::fmember;
 use crate::member::found;
 use crate::member::mmember;
@@ -15,10 +16,12 @@ use crate::types;
 use book::member::after;
 use book::member::id;
 use book::member::members;
+use book::member::type_index;
 use lookup::ahead::Hint;
 use lookup::ahead::hint_after;
 use lookup::ahead::value_at;
 use table::out::Out;
+use values::quick::found_value_at;
 use wire::cursor::Cursor;
 use wire::cursor::Place;
 use wire::dheader::cut;
@@ -44,13 +47,6 @@ pub fn fstruct(
     let mut m = n;
     while 0 < ms.left {
         let p = ms.at;
-        let past = plain::take(book, index, s, set, t, p, Cursor::new(pos, origin), m);
-        if 0 < past {
-            pos = past;
-            m += 1;
-            ms = after(book, ms);
-            continue;
-        }
         match fmember(
             book,
             index,
@@ -116,19 +112,34 @@ pub fn mmembers(
             h = hint_after(ahead, wanted);
             let size = ahead.length;
             let own = cut(s, set, v, size);
-            let past = plain::take_found(book, index, own, set, t, p, wanted as u64, c, m);
+            let kind = plain::kind_found(book, index, p);
+            let past = found_value_at(own, set, t, kind, wanted as u64, c, m);
             if 0 < past {
                 m += 1;
                 ms = after(book, ms);
                 continue;
             }
-            match found(book, index, own, set, t, p, size, c, m, depth) {
-                Out::Read(_, k) => {
-                    m = k;
-                    ms = after(book, ms);
+            if kinds::opens(kind) {
+                let ty = type_index(book, p);
+                let part = cut(s, set, v, size);
+                match as_nested(book, index, part, set, t, ty, wanted as u64, 1, c, m, depth) {
+                    Out::Read(_, k) => {
+                        m = k;
+                        ms = after(book, ms);
+                    }
+                    Out::Short(x) => return Out::Short(x.back_to(back)),
+                    Out::Refused(k) => return Out::Refused(k),
                 }
-                Out::Short(x) => return Out::Short(x.back_to(back)),
-                Out::Refused(k) => return Out::Refused(k),
+            } else {
+                let part = cut(s, set, v, size);
+                match found(book, index, part, set, t, p, size, c, m, depth) {
+                    Out::Read(_, k) => {
+                        m = k;
+                        ms = after(book, ms);
+                    }
+                    Out::Short(x) => return Out::Short(x.back_to(back)),
+                    Out::Refused(k) => return Out::Refused(k),
+                }
             }
         } else {
             match mmember(book, index, s, set, t, p, back, m, depth) {

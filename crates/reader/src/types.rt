@@ -10,8 +10,10 @@ ghost use Rattle.table.specs.Code.Outcome.{Done};
 ghost use mathlib.Core.List.{List};
 ghost use Prim.Native.Nat.{ℕ, _+_, _<_};
 ghost use lib.ListN.{length};
+ghost use Rattle.kinds.specs.Kinds.{storedOf};
 ghost use Rattle.lookup.specs.Code.Ahead.{TrueHint};
 use book::bytes::byte_there;
+use book::bytes::is_there;
 use book::bytes::quad_there;
 use book::index::place;
 use book::types::bound;
@@ -19,8 +21,10 @@ use book::types::element;
 use book::types::extensibility;
 use book::types::is_bounded;
 use kinds::names::BITMASK;
+use kinds::names::ENUM;
 use kinds::names::SEQUENCE;
 use kinds::names::STRUCTURE;
+use kinds::names::UNION;
 use lookup::ahead::Hint;
 use lookup::ahead::sentinel_from;
 use table::out::Out;
@@ -36,7 +40,20 @@ use wire::settings::Version;
 pub fn kind_at(book: &[u8], at: usize) -> u8
     ensures { λ r. ⌜ r ≡ typeAt (now (book .entry)) at .kind ⌝ }
 {
+    if is_there(book, at, book::types::LAST) {
+        return byte_there(book, at, 2) as u8;
+    }
     book::types::kind(book, at) as u8
+}
+
+// Most types have all of their own 14 bytes. That they are there is one test, which the loop of their members asks too.
+fn extensibility_at(book: &[u8], at: usize) -> usize
+    ensures { λ r. ⌜ r ≡ typeAt (now (book .entry)) at .extensibility ⌝ }
+{
+    if is_there(book, at, book::types::LAST) {
+        return byte_there(book, at, 3);
+    }
+    extensibility(book, at)
 }
 
 pub fn base_at(book: &[u8], at: usize) -> u8
@@ -54,7 +71,7 @@ pub fn is_sequence(book: &[u8], at: usize) -> bool
 pub fn is_mutable(book: &[u8], at: usize) -> bool
     ensures { λ r. ⌜ r ≡ isMutable (typeAt (now (book .entry)) at) ⌝ }
 {
-    extensibility(book, at) == 2
+    extensibility_at(book, at) == 2
 }
 
 // The kind that a value is read as: a bitmask's by its bound.
@@ -104,6 +121,18 @@ pub fn by_length(book: &[u8], index: &[u32], set: Settings, at: usize) -> bool
     }
 }
 
+// The kind of an opened value's row. In an arm the kind is known, so the compiler looks the entry up, and builds no table on the stack.
+pub fn row_kind(kind: u8) -> u8
+    ensures { λ r. ⌜ r ≡ storedOf kind ⌝ }
+{
+    match kind {
+        ENUM => kinds::stored_of(ENUM),
+        STRUCTURE => kinds::stored_of(STRUCTURE),
+        UNION => kinds::stored_of(UNION),
+        _ => kinds::stored_of(kind),
+    }
+}
+
 // How many elements that length holds.
 pub fn element_count(book: &[u8], index: &[u32], at: usize, length: u64) -> u64
     ensures { λ r. ⌜ r ≡ elementCount (typesBy (now (book .entry)) (now (index .entry))) (typeAt (now (book .entry)) at) length ⌝ }
@@ -117,13 +146,13 @@ pub fn element_count(book: &[u8], index: &[u32], at: usize, length: u64) -> u64
 pub fn absorbs(book: &[u8], at: usize, p: usize) -> bool
     ensures { λ r. ⌜ r ≡ absorbs (typeAt (now (book .entry)) at) (memberAt (now (book .entry)) p) ⌝ }
 {
-    (extensibility(book, at) == 1) | (book::member::construct(book, p) == 0)
+    (extensibility_at(book, at) == 1) | (book::member::construct(book, p) == 0)
 }
 
 pub fn is_delimited(book: &[u8], at: usize) -> bool
     ensures { λ r. ⌜ r ≡ isDelimited (typeAt (now (book .entry)) at) ⌝ }
 {
-    let extensibility = extensibility(book, at);
+    let extensibility = extensibility_at(book, at);
     (extensibility == 1) | (extensibility == 2)
 }
 

@@ -19,8 +19,8 @@ use table::out::Refusal;
 use wire::cursor::Cursor;
 use wire::settings::Settings;
 
-// Serialization rules 26 to 28: the members of a union, whose type is at `at`.
-pub fn union_type(
+// Serialization rules 26 to 28: the parts of a union, whose type is at `at`: its discriminator, and the member that this selects.
+pub fn parts(
     book: &[u8],
     index: &[u32],
     s: &[u8],

@@ -3,8 +3,8 @@ use borrow.Author.Needs.{needs}
 use Rattle.reader.proofs.types.absorbs.Statement.{statement}
 use Rattle.reader.proofs.types.absorbs.Tie as tie
 
-extensibility-requires : tie.Need-extensibility-requires
-extensibility-requires c κs = search needs
+extensibility-at-requires : tie.Need-extensibility-at-requires
+extensibility-at-requires c κs = search needs
 
 construct-requires : tie.Need-construct-requires
 construct-requires c κs = search needs
@@ -13,4 +13,4 @@ returns : tie.Need-returns
 returns c = search (needs, absorbs-is)
 
 pub absorbs-spec : {M : Type 1} → statement M
-absorbs-spec = tie.close (tie.spec extensibility-requires construct-requires returns)
+absorbs-spec = tie.close (tie.spec extensibility-at-requires construct-requires returns)

@@ -3,11 +3,11 @@ use borrow.Author.Needs.{needs}
 use Rattle.reader.proofs.types.is_delimited.Statement.{statement}
 use Rattle.reader.proofs.types.is_delimited.Tie as tie
 
-extensibility-requires : tie.Need-extensibility-requires
-extensibility-requires c κs = search needs
+extensibility-at-requires : tie.Need-extensibility-at-requires
+extensibility-at-requires c κs = search needs
 
 returns : tie.Need-returns
 returns c = search (needs, delimited-is)
 
 pub is-delimited-spec : {M : Type 1} → statement M
-is-delimited-spec = tie.close (tie.spec extensibility-requires returns)
+is-delimited-spec = tie.close (tie.spec extensibility-at-requires returns)

@@ -2,16 +2,16 @@
 use borrow.Author.Needs.{needs}
 use Prim.Native.Nat.{ℕ}
 use Rattle.reader.proofs.inner.Reads as inner
-use Rattle.reader.proofs.+as_nested+body+inner+member-fmember+member-found+member-mmember+member-option+structure-fstruct+structure-mmembers+union-chosen+union-first+union-union_type+value-elements+value-listed+value-value.Lts-inner as lts
-use Rattle.reader.proofs.+as_nested+body+inner+member-fmember+member-found+member-mmember+member-option+structure-fstruct+structure-mmembers+union-chosen+union-first+union-union_type+value-elements+value-listed+value-value.Proof.Base.{inner-at, structure·fstruct-below, union·union-type-below}
+use Rattle.reader.proofs.+as_nested+body+inner+member-fmember+member-found+member-mmember+member-option+rest+structure-fstruct+structure-mmembers+union-chosen+union-first+union-parts+value-elements+value-listed+value-value.Lts-inner as lts
+use Rattle.reader.proofs.+as_nested+body+inner+member-fmember+member-found+member-mmember+member-option+rest+structure-fstruct+structure-mmembers+union-chosen+union-first+union-parts+value-elements+value-listed+value-value.Proof.Base.{inner-at, structure·fstruct-below, union·parts-below}
 use Rattle.reader.proofs.structure.fstruct.Reads as structure·fstruct
-use Rattle.reader.proofs.union.union_type.Reads as union·union-type
+use Rattle.reader.proofs.union.parts.Reads as union·parts
 use Rattle.reader.proofs.types.is_mutable.Reads as is-mutable-reads
 use Rattle.reader.proofs.types.kind_at.Reads as kind-at-reads
 use Rattle.reader.proofs.Rules.{inner-laws}
 
 abbrev E : ℕ → lts.Claims
-E t = (kind-at-reads.Asked, kind-at-reads.Learnt, structure·fstruct-below t, structure·fstruct.Post, is-mutable-reads.Asked, is-mutable-reads.Learnt, union·union-type-below t, union·union-type.Post)
+E t = (kind-at-reads.Asked, kind-at-reads.Learnt, structure·fstruct-below t, structure·fstruct.Post, is-mutable-reads.Asked, is-mutable-reads.Learnt, union·parts-below t, union·parts.Post)
 
 pub closed : (t : ℕ) {M : Type 1} → lts.Closed (E t) (inner-at t) inner.Post M
 closed t =
@@ -21,6 +21,6 @@ closed t =
     (λ c. search (needs, inner-laws))  -- same-length
     (λ c. search (needs, inner-laws))  -- returns
     (λ c κs. search (needs, inner-laws))  -- is-mutable-requires
-    (λ c κs. search (needs, inner-laws))  -- union-type-requires
+    (λ c κs. search (needs, inner-laws))  -- parts-requires
     (λ c. search (needs, inner-laws))  -- same-length-2
     (λ c. search (needs, inner-laws))  -- returns-2

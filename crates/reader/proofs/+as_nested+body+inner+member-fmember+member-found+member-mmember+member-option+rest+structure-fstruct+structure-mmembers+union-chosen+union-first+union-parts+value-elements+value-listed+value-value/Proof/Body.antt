@@ -4,8 +4,8 @@ use Rattle.reader.proofs.NestedSteps.{body-mstruct, no-mutable-structur
 use borrow.Author.Needs.{needs}
 use Prim.Native.Nat.{ℕ}
 use Rattle.reader.proofs.body.Reads as body
-use Rattle.reader.proofs.+as_nested+body+inner+member-fmember+member-found+member-mmember+member-option+structure-fstruct+structure-mmembers+union-chosen+union-first+union-union_type+value-elements+value-listed+value-value.Lts-body as lts
-use Rattle.reader.proofs.+as_nested+body+inner+member-fmember+member-found+member-mmember+member-option+structure-fstruct+structure-mmembers+union-chosen+union-first+union-union_type+value-elements+value-listed+value-value.Proof.Base.{body-at, inner-below, structure·mmembers-below}
+use Rattle.reader.proofs.+as_nested+body+inner+member-fmember+member-found+member-mmember+member-option+rest+structure-fstruct+structure-mmembers+union-chosen+union-first+union-parts+value-elements+value-listed+value-value.Lts-body as lts
+use Rattle.reader.proofs.+as_nested+body+inner+member-fmember+member-found+member-mmember+member-option+rest+structure-fstruct+structure-mmembers+union-chosen+union-first+union-parts+value-elements+value-listed+value-value.Proof.Base.{body-at, inner-below, structure·mmembers-below}
 use Rattle.reader.proofs.inner.Reads as inner
 use Rattle.reader.proofs.structure.mmembers.Reads as structure·mmembers
 use Rattle.book.proofs.member.member_count.Reads as member-count-reads
@@ -22,7 +22,7 @@ use Rattle.wire.proofs.settings.Settings.keeps_ends.Reads as keeps-ends-reads
 use Rattle.reader.proofs.Rules.{body-laws}
 
 abbrev E : ℕ → lts.Claims
-E t = (kind-at-reads.Asked, kind-at-reads.Learnt, base-at-reads.Asked, base-at-reads.Learnt, enum-type-reads.Asked, enum-type-reads.Learnt, beginning-reads.Asked, beginning-reads.Learnt, cut-reads.Asked, cut-reads.Learnt, is-mutable-reads.Asked, is-mutable-reads.Learnt, member-count-reads.Asked, member-count-reads.Learnt, start-at-reads.Asked, start-at-reads.Learnt, structure·mmembers-below t, structure·mmembers.Post, inner-below t, inner.Post, keeps-ends-reads.Asked, keeps-ends-reads.Learnt, is-delimited-reads.Asked, is-delimited-reads.Learnt, stand-at-reads.Asked, stand-at-reads.Learnt)
+E t = (kind-at-reads.Asked, kind-at-reads.Learnt, base-at-reads.Asked, base-at-reads.Learnt, enum-type-reads.Asked, enum-type-reads.Learnt, beginning-reads.Asked, beginning-reads.Learnt, cut-reads.Asked, cut-reads.Learnt, is-mutable-reads.Asked, is-mutable-reads.Learnt, member-count-reads.Asked, member-count-reads.Learnt, start-at-reads.Asked, start-at-reads.Learnt, structure·mmembers-below t, structure·mmembers.Post, keeps-ends-reads.Asked, keeps-ends-reads.Learnt, is-delimited-reads.Asked, is-delimited-reads.Learnt, inner-below t, inner.Post, stand-at-reads.Asked, stand-at-reads.Learnt)
 
 pub closed : (t : ℕ) {M : Type 1} → lts.Closed (E t) (body-at t) body.Post M
 closed t =
@@ -46,9 +46,9 @@ closed t =
     (λ c. body-mstruct _ _ _ _ _ _ _ _ _ _ (c .before .before .before .before .before .before .before .before .before .before .before .before .before .kind-at .ensures) (c .before .before .before .before .before .before .before .before .before .before .before .before .if1 .left) _ (c .before .before .before .before .before .before .before .before .before .before .before .beginning .ensures) _ _ (c .before .before .before .before .before .before .before .before .before .d .given .1) _ (c .before .before .before .before .before .before .before .cut .ensures) _ (c .before .before .before .before .before .before .is-mutable .ensures) (c .before .before .before .before .before .if2 .taken) _ _ (mstruct-short _ _ _ _ _ _ (c .before .before .before .before .member-count .ensures .0) _ (c .before .before .before .start-at .ensures) _ _ _ _ _ _ (c .before .x2 .given .1)))  -- returns-2
     (λ c. search (needs, body-laws))  -- same-length-2
     (λ c. body-mstruct _ _ _ _ _ _ _ _ _ _ (c .before .before .before .before .before .before .before .before .before .before .before .before .before .before .before .before .before .kind-at .ensures) (c .before .before .before .before .before .before .before .before .before .before .before .before .before .before .before .before .if1 .left) _ (c .before .before .before .before .before .before .before .before .before .before .before .before .before .before .before .beginning .ensures) _ _ (c .before .before .before .before .before .before .before .before .before .before .before .before .before .d .given .1) _ (c .before .before .before .before .before .before .before .before .before .before .before .cut .ensures) _ (c .before .before .before .before .before .before .before .before .before .before .is-mutable .ensures) (c .before .before .before .before .before .before .before .before .before .if2 .taken) _ _ (mstruct-members _ _ _ _ _ _ (c .before .before .before .before .before .before .before .before .member-count .ensures .0) _ (c .before .before .before .before .before .before .before .start-at .ensures) _ _ _ _ _ _ _ (c .before .before .before .before .before .back .given .1) _ _ (c .before .before .mmembers .ensures)))  -- returns-3
-    (λ c κs. (search (needs, body-laws, c .before .before .before .before .before .before .before .before .before .before .before .before .before .before .pre), no-mutable-structure _ _ _ _ (c .before .before .before .before .before .before .before .before .before .kind-at .ensures) (c .before .before .is-mutable .ensures) (c .before .if2 .left)))  -- inner-requires
     (λ c κs. search (needs, body-laws))  -- keeps-ends-requires
     (λ c κs. search (needs, body-laws))  -- is-delimited-requires
+    (λ c κs. (search (needs, body-laws, c .before .before .before .before .before .before .before .before .before .before .before .before .before .before .before .before .pre), no-mutable-structure _ _ _ _ (c .before .before .before .before .before .before .before .before .before .before .before .kind-at .ensures) (c .before .before .before .before .is-mutable .ensures) (c .before .before .before .if2 .left)))  -- inner-requires
     (λ c κs. search (needs, body-laws))  -- stand-at-requires
     (λ c. search (needs, body-laws))  -- same-length-3
     (λ c. search (needs, body-laws))  -- returns-4

@@ -16,6 +16,8 @@ use Rattle.reader.proofs.member.mmember.Reads as member·mmember
 use Rattle.reader.proofs.member.mmember.Kinds as member·mmember-kinds
 use Rattle.reader.proofs.member.option.Reads as member·option
 use Rattle.reader.proofs.member.option.Kinds as member·option-kinds
+use Rattle.reader.proofs.rest.Reads as rest
+use Rattle.reader.proofs.rest.Kinds as rest-kinds
 use Rattle.reader.proofs.structure.fstruct.Reads as structure·fstruct
 use Rattle.reader.proofs.structure.fstruct.Kinds as structure·fstruct-kinds
 use Rattle.reader.proofs.structure.mmembers.Reads as structure·mmembers
@@ -24,8 +26,8 @@ use Rattle.reader.proofs.union.chosen.Reads as union·chosen
 use Rattle.reader.proofs.union.chosen.Kinds as union·chosen-kinds
 use Rattle.reader.proofs.union.first.Reads as union·first
 use Rattle.reader.proofs.union.first.Kinds as union·first-kinds
-use Rattle.reader.proofs.union.union_type.Reads as union·union-type
-use Rattle.reader.proofs.union.union_type.Kinds as union·union-type-kinds
+use Rattle.reader.proofs.union.parts.Reads as union·parts
+use Rattle.reader.proofs.union.parts.Kinds as union·parts-kinds
 use Rattle.reader.proofs.value.elements.Reads as value·elements
 use Rattle.reader.proofs.value.elements.Kinds as value·elements-kinds
 use Rattle.reader.proofs.value.listed.Reads as value·listed
@@ -37,13 +39,13 @@ abbrev pub μ-as-nested : Measures 4 as-nested-kinds.ps ℕ
 μ-as-nested κs a = 14 * a .1 .1 .1 .1 .1 .1 .1 .1 .1 .1 .0
 
 abbrev pub μ-body : Measures 4 body-kinds.ps ℕ
-μ-body κs a = 14 * a .1 .1 .1 .1 .1 .1 .1 .1 .0 + 11
+μ-body κs a = 14 * a .1 .1 .1 .1 .1 .1 .1 .1 .0 + 12
 
 abbrev pub μ-inner : Measures 4 inner-kinds.ps ℕ
-μ-inner κs a = 14 * a .1 .1 .1 .1 .1 .1 .1 .1 .0 + 10
+μ-inner κs a = 14 * a .1 .1 .1 .1 .1 .1 .1 .1 .0 + 11
 
 abbrev pub μ-member·fmember : Measures 4 member·fmember-kinds.ps ℕ
-μ-member·fmember κs a = 14 * a .1 .1 .1 .1 .1 .1 .1 .1 .0 + 8
+μ-member·fmember κs a = 14 * a .1 .1 .1 .1 .1 .1 .1 .1 .0 + 9
 
 abbrev pub μ-member·found : Measures 4 member·found-kinds.ps ℕ
 μ-member·found κs a = 14 * a .1 .1 .1 .1 .1 .1 .1 .1 .1 .0 + 5
@@ -54,8 +56,11 @@ abbrev pub μ-member·mmember : Measures 4 member·mmember-kinds.ps ℕ
 abbrev pub μ-member·option : Measures 4 member·option-kinds.ps ℕ
 μ-member·option κs a = 14 * a .1 .1 .1 .1 .1 .1 .1 .1 .0 + 7
 
+abbrev pub μ-rest : Measures 4 rest-kinds.ps ℕ
+μ-rest κs a = 14 * a .1 .1 .1 .1 .1 .1 .1 .1 .0 + 8
+
 abbrev pub μ-structure·fstruct : Measures 4 structure·fstruct-kinds.ps ℕ
-μ-structure·fstruct κs a = 14 * a .1 .1 .1 .1 .1 .1 .1 .1 .0 + 9
+μ-structure·fstruct κs a = 14 * a .1 .1 .1 .1 .1 .1 .1 .1 .0 + 10
 
 abbrev pub μ-structure·mmembers : Measures 4 structure·mmembers-kinds.ps ℕ
 μ-structure·mmembers κs a = 14 * a .1 .1 .1 .1 .1 .1 .1 .1 .1 .1 .0 + 9
@@ -66,8 +71,8 @@ abbrev pub μ-union·chosen : Measures 4 union·chosen-kinds.ps ℕ
 abbrev pub μ-union·first : Measures 4 union·first-kinds.ps ℕ
 μ-union·first κs a = 14 * a .1 .1 .1 .1 .1 .1 .1 .1 .1 .0 + 8
 
-abbrev pub μ-union·union-type : Measures 4 union·union-type-kinds.ps ℕ
-μ-union·union-type κs a = 14 * a .1 .1 .1 .1 .1 .1 .1 .1 .1 .0 + 9
+abbrev pub μ-union·parts : Measures 4 union·parts-kinds.ps ℕ
+μ-union·parts κs a = 14 * a .1 .1 .1 .1 .1 .1 .1 .1 .1 .0 + 9
 
 abbrev pub μ-value·elements : Measures 4 value·elements-kinds.ps ℕ
 μ-value·elements κs a = 14 * a .1 .1 .1 .1 .1 .1 .1 .1 .1 .1 .0 + 1
@@ -153,6 +158,12 @@ member·option-below t =
     (falls 4 member·option-kinds.ps _<_ μ-member·option t)
     member·option.Pre
 
+abbrev pub rest-at : ℕ → In 4 rest-kinds.ps
+rest-at t = and 4 rest-kinds.ps (is 4 rest-kinds.ps μ-rest t) rest.Pre
+
+abbrev pub rest-below : ℕ → In 4 rest-kinds.ps
+rest-below t = and 4 rest-kinds.ps (falls 4 rest-kinds.ps _<_ μ-rest t) rest.Pre
+
 abbrev pub structure·fstruct-at : ℕ → In 4 structure·fstruct-kinds.ps
 structure·fstruct-at t =
     and
@@ -205,21 +216,13 @@ abbrev pub union·first-below : ℕ → In 4 union·first-kinds.ps
 union·first-below t =
     and 4 union·first-kinds.ps (falls 4 union·first-kinds.ps _<_ μ-union·first t) union·first.Pre
 
-abbrev pub union·union-type-at : ℕ → In 4 union·union-type-kinds.ps
-union·union-type-at t =
-    and
-    4
-    union·union-type-kinds.ps
-    (is 4 union·union-type-kinds.ps μ-union·union-type t)
-    union·union-type.Pre
+abbrev pub union·parts-at : ℕ → In 4 union·parts-kinds.ps
+union·parts-at t =
+    and 4 union·parts-kinds.ps (is 4 union·parts-kinds.ps μ-union·parts t) union·parts.Pre
 
-abbrev pub union·union-type-below : ℕ → In 4 union·union-type-kinds.ps
-union·union-type-below t =
-    and
-    4
-    union·union-type-kinds.ps
-    (falls 4 union·union-type-kinds.ps _<_ μ-union·union-type t)
-    union·union-type.Pre
+abbrev pub union·parts-below : ℕ → In 4 union·parts-kinds.ps
+union·parts-below t =
+    and 4 union·parts-kinds.ps (falls 4 union·parts-kinds.ps _<_ μ-union·parts t) union·parts.Pre
 
 abbrev pub value·elements-at : ℕ → In 4 value·elements-kinds.ps
 value·elements-at t =
