@@ -4,6 +4,8 @@ ghost use mathlib.Core.Path.{_≡_};
 ghost use Rattle.kinds.specs.Kinds.{alignOf, elementSizeOf, storedOf, isPrimitive, isSigned, unsupportedMember, unsupportedElement, opens, storedByBound, bitmaskStored};
 
 pub mod names;
+pub mod stored;
+pub mod widths;
 
 use names::ALIAS;
 use names::ANNOTATION;

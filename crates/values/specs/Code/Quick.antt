@@ -19,7 +19,6 @@ use Rattle.table.specs.declared.out.Out.the-variants.{Read}
 use Rattle.table.specs.Outcome.{Outcome}
 use Rattle.table.specs.Code.Outcome.{Done}
 use Rattle.values.specs.Scalar.{scalarOf, rowed, wordOf}
-use Rattle.values.specs.declared.quick.Word.{Word}
 
 -- the numbers of up to 8 bytes; a boolean is judged, and CHAR16 is unsupported
 unfoldable pub isNumber : ℕ → Bool
@@ -33,17 +32,6 @@ isTaken kind = both (within (1 ‥ 16) kind) (not (among (11 ∷ 15 ∷ []) kind
 unfoldable pub Quickly : Outcome → ℕ → ℕ → ℕ → List ℕ → List ℕ → ℕ → Type 0
 Quickly o k n origin before after zero = after ≡ before
 Quickly o k n origin before after (suc p) = Done o n before after (Read (cursorAt (suc p) origin) (n + k))
-
--- a word that was found, where its position is not 0: the value is read, and its row has that word
-unfoldable pub WordAt : List ℕ → Settings → ℕ → Cursor → Word → Type 0
-WordAt s set kind c w =
-    0 < w .past → (id room : ℕ) → scalarOf s set kind id c room ≡ rowed room (cursorAt (w .past) (c .origin)) (row (storedOf kind) id (w .value) 0)
-
--- a word's row is written where its position, which is the answer, is not 0
-pub record WordPut (before : List ℕ) (kind id n : ℕ) (w : Word) (after : List ℕ) (r : ℕ) : Type 0 where
-  pub past : r ≡ w .past
-  pub put : 0 < r → after ≡ putRow before n (row (storedOf kind) id (w .value) 0)
-  pub none : r ≤ 0 → after ≡ before
 
 -- the rows of a list's numbers from number i on, which stand one after the other from p on
 unfoldable pub rowsFrom : List ℕ → ByteOrder → ℕ → ℕ → ℕ → ℕ → List Row

@@ -3,23 +3,20 @@ use borrow.Author.Needs.{needs}
 use Rattle.values.proofs.quick.boolean_at.Statement.{statement}
 use Rattle.values.proofs.quick.boolean_at.Tie as tie
 
+start-requires : tie.Need-start-requires
+start-requires c κs = search needs
+
+add-if1 : tie.Need-add-if1
+add-if1 c = search needs
+
 returns : tie.Need-returns
 returns c = search (needs, quick-not)
 
-shared-slice-read-wide : tie.Need-shared-slice-read-wide
-shared-slice-read-wide c = search needs
-
-wide-requires : tie.Need-wide-requires
-wide-requires c κs = search needs
+from-bytes-requires : tie.Need-from-bytes-requires
+from-bytes-requires c κs = search needs
 
 returns-2 : tie.Need-returns-2
 returns-2 c = search (needs, quick-not)
-
-stored-of-requires : tie.Need-stored-of-requires
-stored-of-requires c κs = search needs
-
-cast-t14 : tie.Need-cast-t14
-cast-t14 c = search needs
 
 put-row-requires : tie.Need-put-row-requires
 put-row-requires c κs = search (needs, free-fits)
@@ -37,12 +34,11 @@ pub boolean-at-spec : {M : Type 1} → statement M
 boolean-at-spec =
     tie.close
     (tie.spec
+    start-requires
+    add-if1
     returns
-    shared-slice-read-wide
-    wide-requires
+    from-bytes-requires
     returns-2
-    stored-of-requires
-    cast-t14
     put-row-requires
     add-result
     same-length

@@ -37,12 +37,6 @@ is-text-requires c κs = search needs
 returns-4 : tie.Need-returns-4
 returns-4 c = search (needs, quick-not)
 
-stored-of-requires : tie.Need-stored-of-requires
-stored-of-requires c κs = search needs
-
-cast-t16 : tie.Need-cast-t16
-cast-t16 c = search needs
-
 sub-t14 : tie.Need-sub-t14
 sub-t14 c = search needs
 
@@ -56,7 +50,7 @@ same-length : tie.Need-same-length
 same-length c = search needs
 
 returns-5 : tie.Need-returns-5
-returns-5 c = quick-text _ _ _ _ _ _ (c .before .before .before .before .before .before .before .before .before .before .before .start .result) _ _ (c .before .before .before .before .before .before .before .before .before .before .before .start .ensures .0) (search needs) (c .before .before .before .before .before .before .before .before .before .from-bytes .ensures .0) (search needs) (search needs) (search needs) _ (c .before .before .before .before .before .before .is-text .ensures) (not-false _ (c .before .before .before .before .before .if4 .left)) _ (c .before .before .before .before .stored-of .ensures) (search needs) _ (search needs)
+returns-5 c = quick-text _ _ _ _ _ _ (c .before .before .before .before .before .before .before .before .before .before .start .result) _ _ (c .before .before .before .before .before .before .before .before .before .before .start .ensures .0) (search needs) (c .before .before .before .before .before .before .before .before .from-bytes .ensures .0) (search needs) (search needs) (search needs) _ (c .before .before .before .before .before .is-text .ensures) (not-false _ (c .before .before .before .before .if4 .left)) (search needs) _ (search needs)
 
 pub text-at-spec : {M : Type 1} → statement M
 text-at-spec =
@@ -73,8 +67,6 @@ text-at-spec =
     sub-is-text
     is-text-requires
     returns-4
-    stored-of-requires
-    cast-t16
     sub-t14
     put-row-requires
     add-result
