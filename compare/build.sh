@@ -8,10 +8,7 @@ root=$(dirname "$beside")
 xtypes=${XTYPES:-$root/../shared/docs/src/src/xtypes}
 [ -f "$xtypes/deserializer.rs" ] || { echo "$me: no deserializer.rs in $xtypes; set XTYPES ($me/run --help)" >&2 && exit 2; }
 out=$root/target/$me
-m=$(uname -m)
-kit=${RATTLE_KIT:-$(cd "$(dirname "$(readlink -f "$(command -v rt)")")/.." && pwd -P)}
-tools=$kit/on/$m/toolchain
-x86=x86_64-unknown-linux-gnu
+. "$root/tools/kit.sh"
 mkdir -p "$out"
 
 # The crate's files as they are, but for the closing validation call, which document 01 leaves out, and two stand-ins beside them.
@@ -50,26 +47,9 @@ END
     printf 8 >"$repo/crates/feed/stdout"
     kit_that_keeps_modules "$repo/kit"
     (cd "$repo" && RATTLE_HOME=$repo/kit rt try feed) >"$2" 2>&1 || { tail -n 20 "$2"; exit 1; }
-    "$tools/bin/clang" --target=$x86 -x ir "$repo/kit/module-O3.bc" -S -emit-llvm -O0 -Xclang -disable-llvm-passes -o "$repo/m.ll"
+    module_text "$repo/kit/module-O3.bc" "$repo/m.ll"
     sed -e '/^define internal .*@"sinotayam::c::sinotayam_/s/^define internal/define/' -e 's/@"sinotayam::c::sinotayam_\([a-z_]*\)"/@unproved_\1/g' -e 's/@main(/@rattle_main(/' "$repo/m.ll" >"$repo/n.ll"
     "$tools/bin/clang" --target=$x86 -march=x86-64 -O3 -fPIC -mllvm -trap-unreachable -mllvm -no-trap-after-noreturn -x ir -c "$repo/n.ll" -o "$repo/port.o"
-}
-
-# A view of the kit whose clang also keeps the modules that it compiles, as DIR/module-O0.bc and DIR/module-O3.bc.
-kit_that_keeps_modules() { # DIR
-    mkdir -p "$1/on/$m/toolchain/bin"
-    for f in "$kit"/*; do [ "${f##*/}" = on ] || ln -sfn "$f" "$1/${f##*/}"; done
-    for f in "$kit/on/$m"/*; do [ "${f##*/}" = toolchain ] || ln -sfn "$f" "$1/on/$m/${f##*/}"; done
-    for f in "$tools"/*; do [ "${f##*/}" = bin ] || ln -sfn "$f" "$1/on/$m/toolchain/${f##*/}"; done
-    for f in "$tools"/bin/*; do [ "${f##*/}" = clang ] || ln -sfn "$f" "$1/on/$m/toolchain/bin/${f##*/}"; done
-    cat >"$1/on/$m/toolchain/bin/clang" <<END
-#!/bin/sh
-opt=O0
-for a in "\$@"; do case \$a in -O[0-3]) opt=\${a#-} ;; esac; done
-for a in "\$@"; do case \$a in *.bc) cp -f "\$a" "$1/module-\$opt.bc" ;; esac; done
-exec "$tools/bin/clang" "\$@"
-END
-    chmod +x "$1/on/$m/toolchain/bin/clang"
 }
 
 # The comparison's program around the crate's text.
@@ -106,5 +86,6 @@ link() { # ARCHIVE WORDS
     fi
     "$tools/bin/clang" --target=$x86 -O2 -fPIE -fno-builtin "$@" -c "$beside/port.c" -o "$out/port.o"
     "$kit/on/$m/bin/rattle-link" --target $x86 --toolchain "$tools" -o "$out/port" "$out/port.o" "$lib" >"$out/link.log" 2>&1 || { cat "$out/link.log"; exit 1; }
-    port=("$tools/bin/qemu-x86_64" "$tools/lib/ld-linux-x86-64.so.2" --library-path "$tools/lib" "$out/port")
+    words_for "$out/port"
+    port=("${run[@]}")
 }
