@@ -120,5 +120,7 @@ if what in ("time", "all"):
     trucks("nanoseconds a message that real DDS wrote, best", real)
 if what in ("stack", "all"):
     stack()
-print(f"\n{len(missed)} goals missed (*)")
+print(f"\n{len(missed)} goals missed" + (": a ratio with * is over its goal" if missed else ""))
+for m in missed:
+    print("* " + m)
 sys.exit(bool(missed))

@@ -41,6 +41,60 @@ enum {
 /* The words in which the index of any book has room. */
 #define SINOTAYAM_INDEX 65
 
+/* The kinds of types, in a book; a row's kind is one of them too. docs/BOOK.md has the book's form. */
+enum {
+    SINOTAYAM_KIND_NONE = 0,
+    SINOTAYAM_KIND_BOOLEAN = 1,
+    SINOTAYAM_KIND_BYTE = 2,
+    SINOTAYAM_KIND_INT16 = 3,
+    SINOTAYAM_KIND_INT32 = 4,
+    SINOTAYAM_KIND_INT64 = 5,
+    SINOTAYAM_KIND_UINT16 = 6,
+    SINOTAYAM_KIND_UINT32 = 7,
+    SINOTAYAM_KIND_UINT64 = 8,
+    SINOTAYAM_KIND_FLOAT32 = 9,
+    SINOTAYAM_KIND_FLOAT64 = 10,
+    SINOTAYAM_KIND_FLOAT128 = 11,
+    SINOTAYAM_KIND_INT8 = 12,
+    SINOTAYAM_KIND_UINT8 = 13,
+    SINOTAYAM_KIND_CHAR8 = 14,
+    SINOTAYAM_KIND_CHAR16 = 15,
+    SINOTAYAM_KIND_STRING8 = 16,
+    SINOTAYAM_KIND_STRING16 = 17,
+    SINOTAYAM_KIND_ALIAS = 18,
+    SINOTAYAM_KIND_BITMASK = 19,
+    SINOTAYAM_KIND_ANNOTATION = 20,
+    SINOTAYAM_KIND_ENUM = 21,
+    SINOTAYAM_KIND_STRUCTURE = 22,
+    SINOTAYAM_KIND_UNION = 23,
+    SINOTAYAM_KIND_BITSET = 24,
+    SINOTAYAM_KIND_SEQUENCE = 25,
+    SINOTAYAM_KIND_ARRAY = 26,
+    SINOTAYAM_KIND_MAP = 27
+};
+
+/* Of a type in a book: its extensibility. */
+enum {
+    SINOTAYAM_FINAL = 0,
+    SINOTAYAM_APPENDABLE = 1,
+    SINOTAYAM_MUTABLE = 2
+};
+
+/* Of a member in a book: its flags, which are added up, and its try-construct. */
+enum {
+    SINOTAYAM_OPTIONAL = 1,
+    SINOTAYAM_DEFAULT = 2
+};
+
+enum {
+    SINOTAYAM_USE_DEFAULT = 0,
+    SINOTAYAM_DISCARD = 1,
+    SINOTAYAM_TRIM = 2
+};
+
+/* No type: a record's element and a literal's type, where there is none. */
+#define SINOTAYAM_NO_TYPE 65535
+
 /* Reads a message of the book's type `root`, in the mode that `standard` says. Returns rows * 256 + number. The table holds the rows and then zeros; on a refusal it is all zero. */
 uint64_t sinotayam_read(const uint8_t *book, size_t book_len, uint16_t root, const uint8_t *message, size_t message_len, uint8_t standard, uint64_t *table, size_t words);
 
