@@ -106,6 +106,11 @@ def stack():
     print("\nbytes of stack below the caller")
     for m in ["heartbeat", "nest F1 LE", "nest M2 LE"]:
         print(f"{m:<12}" + "".join(f"  {s} {all[m][s] - empty:.0f}" for s in ["crate", "prepared", "whole"]))
+    deep = [m for m in all if m.startswith(("16 Final", "16 Appendable", "16 Mutable"))]
+    print(f"the most of {len(deep)} messages of 16 values, each in the other (bench/src/deep.rs)")
+    for s in ["crate", "prepared", "whole"]:
+        most = max(deep, key=lambda m: all[m][s])
+        print(f"  {s:<10}{all[most][s] - empty:>7.0f}  {most}")
 
 
 if what in ("count", "all"):

@@ -18,6 +18,7 @@ macro_rules! debug {
 mod agree;
 #[allow(dead_code)]
 mod book;
+mod deep;
 mod messages;
 mod oracle;
 mod port;
@@ -162,6 +163,17 @@ extern "C" fn call(s: *mut Side) {
     unsafe { ((*s).call)() }
 }
 
+/// Each is read first, and agrees with the crate.
+fn deep_sides() -> Vec<Side> {
+    Vec::leak(deep::all())
+        .iter()
+        .flat_map(|c| {
+            rows_of(c).unwrap_or_else(|number| panic!("{}: answer {number}", c.name));
+            [its_own(c), prepared(c, "prepared", APP), whole(c, "whole", APP)]
+        })
+        .collect()
+}
+
 fn stack(sides: &mut [Side]) {
     for s in sides {
         let bytes = unsafe { stack_of(call, s) };
@@ -177,7 +189,10 @@ fn main() {
         "agree" => {}
         "count" => count(&mut sides, number()),
         "time" => time(&mut sides, number()),
-        "stack" => stack(&mut sides),
+        "stack" => {
+            stack(&mut sides);
+            stack(&mut deep_sides());
+        }
         "one" => {
             let mut one = sides.into_iter().filter(|s| s.message == args[3] && s.name == args[4]);
             count(&mut [one.next().expect("a message and a side")], number());

@@ -6,7 +6,7 @@ pub enum Value {
     /// A number, an enum's or a bitmask's too; a float by its bits.
     N(u64),
     Text(String),
-    /// Elements of a list, or members of a structure.
+    /// Elements of a list, or members of a structure; a union's discriminator and the member that it selects.
     Of(Vec<Value>),
 }
 
@@ -73,7 +73,7 @@ impl Writer<'_> {
                 self.out.extend(s.as_bytes());
                 self.out.push(0);
             }
-            Value::Of(vs) if t.kind == 22 => self.structure(t, vs),
+            Value::Of(vs) if t.kind == 22 || t.kind == 23 => self.structure(t, vs),
             Value::Of(vs) if self.xcdr2 && !is_primitive(self.types[t.element as usize].kind) => self.measured(4, |w| w.list(t, vs)),
             Value::Of(vs) => self.list(t, vs),
         }
@@ -106,7 +106,15 @@ impl Writer<'_> {
 
     fn members(&mut self, t: &Type, vs: &[Value]) {
         for (m, v) in t.members.iter().zip(vs) {
-            self.value(m.ty, v);
+            if m.flags & 1 == 0 {
+                self.value(m.ty, v);
+            } else if self.xcdr2 {
+                self.number(1, 1);
+                self.value(m.ty, v);
+            } else {
+                self.align(4);
+                self.mutable1(m, v);
+            }
         }
     }
 
