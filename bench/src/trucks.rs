@@ -1,11 +1,7 @@
 // The messages of a truck that real DDS wrote: bench/trucks.txt says which.
 use crate::book::decode;
-use crate::messages::Case;
+use crate::messages::{book, bytes, Case};
 use std::collections::HashMap;
-
-fn bytes(hex: &str) -> Vec<u8> {
-    hex.as_bytes().chunks(2).map(|two| u8::from_str_radix(std::str::from_utf8(two).unwrap(), 16).expect("hex")).collect()
-}
 
 /// The type that a message is read with: the name is TYPE/SAMPLE/WRITER, and TYPE may be A->B.
 fn read_type(name: &str) -> &str {
@@ -19,7 +15,7 @@ pub fn all() -> Vec<Case> {
     for line in include_str!("trucks.txt").lines().filter(|l| !l.starts_with('#')) {
         let words: Vec<&'static str> = line.split(' ').collect();
         match words[..] {
-            ["book", name, root, book] => drop(books.insert(name, (root.parse().expect("a type's number"), bytes(book)))),
+            ["book", name, root, of] => drop(books.insert(name, (root.parse().expect("a type's number"), book(of)))),
             [name, message] => {
                 let (root, book) = books[read_type(name)].clone();
                 let types = decode(&book).expect("a good book");
