@@ -80,13 +80,13 @@ module _ (s : List ℕ) (set : Settings) (id : ℕ) (at y : Cursor) (n : ℕ) (k
         ∙ sym (by-turns s set (set .version) w (cursorAt q (at .origin))),
   )
 
-  settled : (m value next : ℕ) → turnBy s set (set .version) id at ≡ Done (Found m (cursorAt value (at .origin))) → 0 < m → PassedTo s y n next → AheadAt s set id at m next value
+  settled : (m value next : ℕ) → turnBy s set (set .version) id at ≡ Done (Found m (cursorAt value (at .origin))) → (set .version ≡ Xcdr1 → 0 < m) → PassedTo s y n next → AheadAt s set id at m next value
   unfolding AheadAt
   settled m zero next hit some p = tt
   settled m (suc v) next hit some p =
       (by-turns s set (set .version) id at ∙ seek-done s (turnBy s set (set .version) id) at _ hit, some, own, next-is next p)
 
-  made : (m value next : ℕ) (r : Ahead) → r ≡ aheadOf value m next → turnBy s set (set .version) id at ≡ Done (Found m (cursorAt value (at .origin))) → 0 < m → PassedTo s y n next → AheadIs s set id at r
+  made : (m value next : ℕ) (r : Ahead) → r ≡ aheadOf value m next → turnBy s set (set .version) id at ≡ Done (Found m (cursorAt value (at .origin))) → (set .version ≡ Xcdr1 → 0 < m) → PassedTo s y n next → AheadIs s set id at r
   unfolding AheadIs
   made m value next r e hit some p = rw e (settled m value next hit some p)
 
@@ -118,6 +118,11 @@ asked1 : (ver : Version) (w : ℕ) → ver ≡ Xcdr1 → askedFor ver w ≡ w % 
 unfolding askedFor
 asked1 ver w e = rw e
 
+-- what is said of XCDR1 alone
+only2 : (ver : Version) (n : ℕ) → ver ≡ Xcdr2 → ver ≡ Xcdr1 → 0 < n
+only2 Xcdr1 n e f = absurd (let y : _≡_ {A = ℕ} 0 1 = cc in omega arith)
+only2 Xcdr2 n e f = absurd (let y : _≡_ {A = ℕ} 0 1 = cc in omega arith)
+
 own2 : (ver : Version) (v : ℕ) → ver ≡ Xcdr2 → HeaderId ver (xcdr2.idOf v)
 own2 ver v e = record { small = omega arith; uncut = asked2 ver (xcdr2.idOf v) e }
 
@@ -148,22 +153,22 @@ module _ (s : List ℕ) (set : Settings) (pos origin : ℕ) (head : HeadAt s pos
     judged2 : (w : ℕ) → turnBy s set (set .version) w (cursorAt pos origin) ≡ xcdr2.verdict s set w v n y
     judged2 w = by-turn2 s set (set .version) w (cursorAt pos origin) version ∙ turned2 w
 
-    ahead2 : (m value next : ℕ) (r : Ahead) → r ≡ aheadOf value m next → m ≡ xcdr2.lengthFrom (set .mode) (xcdr2.lcOf v) n → xcdr2.valueFrom (set .mode) (xcdr2.lcOf v) y ≡ cursorAt value origin → y .origin ≡ origin → 0 < n → PassedTo s y n next
+    ahead2 : (m value next : ℕ) (r : Ahead) → r ≡ aheadOf value m next → m ≡ xcdr2.lengthFrom (set .mode) (xcdr2.lcOf v) n → xcdr2.valueFrom (set .mode) (xcdr2.lcOf v) y ≡ cursorAt value origin → y .origin ≡ origin → PassedTo s y n next
         → AheadIs s set (xcdr2.idOf v) (cursorAt pos origin) r
     unfolding xcdr2.verdict
-    ahead2 m value next r e size back kept some p =
+    ahead2 m value next r e size back kept p =
         made s set (xcdr2.idOf v) (cursorAt pos origin) y n kept (own2 (set .version) v version) (λ w l. judged2 w ∙ (rw (ne-eqb (xcdr2.idOf v) w (let f = asked2 (set .version) w version in omega arith)))) m value next r e
-        (judged2 (xcdr2.idOf v) ∙ (rw (eq-eqb (xcdr2.idOf v) (xcdr2.idOf v) refl, ← size, back))) (turns2.found-some (set .mode) (xcdr2.lcOf v) n m size some) p
+        (judged2 (xcdr2.idOf v) ∙ (rw (eq-eqb (xcdr2.idOf v) (xcdr2.idOf v) refl, ← size, back))) (λ first. only2 (set .version) m version first) p
 
   -- a length code below 4 tells the length
-  pub ahead-fixed : (lc n next i id b : ℕ) → lc ≡ xcdr2.lcOf v → lc < 4 → n ≡ xcdr2.fixedLength lc → 0 < n → i ≡ xcdr2.idOf v → i ≡ id → PassedTo s (cursorAt (pos + 4) origin) n next → b ≡ xcdr2.stepBack (set .mode) lc
+  pub ahead-fixed : (lc n next i id b : ℕ) → lc ≡ xcdr2.lcOf v → lc < 4 → n ≡ xcdr2.fixedLength lc → i ≡ xcdr2.idOf v → i ≡ id → PassedTo s (cursorAt (pos + 4) origin) n next → b ≡ xcdr2.stepBack (set .mode) lc
       → (m : ℕ) → m ≡ xcdr2.lengthFrom (set .mode) lc n → (r : Ahead) → r ≡ aheadOf (pos + 4 - b) m next → AheadIs s set id (cursorAt pos origin) r
   unfolding xcdr2.lengthOf xcdr2.lengthByLc
-  ahead-fixed lc n next i id b c l e some named wanted p back m size r f =
-      rw (← wanted, named) (ahead2 n (cursorAt (pos + 4) origin) (rw (← c, lt-ltb _ _ l, ← e)) m (pos + 4 - b) next r f (rw (← c) size) (rw (← c, ← back)) refl some p)
+  ahead-fixed lc n next i id b c l e named wanted p back m size r f =
+      rw (← wanted, named) (ahead2 n (cursorAt (pos + 4) origin) (rw (← c, lt-ltb _ _ l, ← e)) m (pos + 4 - b) next r f (rw (← c) size) (rw (← c, ← back)) refl p)
 
 -- a length code from 4 on has it in NEXTINT
-module _ (s : List ℕ) (set : Settings) (v pos origin : ℕ) (long : LongHead s set v pos origin) (there : 4 ≤ length s - (pos + 4)) (m u : ℕ) (is : m ≡ numberAt (set .order) 0 s (pos + 4) 4) (lc : ℕ) (code : lc ≡ xcdr2.lcOf v) (unit : u ≡ xcdr2.unitOf lc) (some : m * u ≡ 0 → ⊥) where
+module _ (s : List ℕ) (set : Settings) (v pos origin : ℕ) (long : LongHead s set v pos origin) (there : 4 ≤ length s - (pos + 4)) (m u : ℕ) (is : m ≡ numberAt (set .order) 0 s (pos + 4) 4) (lc : ℕ) (code : lc ≡ xcdr2.lcOf v) (unit : u ≡ xcdr2.unitOf lc) where
   told-long : xcdr2.lengthOf s set v (cursorAt (pos + 4) origin) ≡ number.Got (m * u) (cursorAt (pos + 4 + 4) origin)
   unfolding xcdr2.lengthOf xcdr2.lengthByLc xcdr2.nextintTimes afterNumber
   told-long = rw (le-ltb _ _ (long .code), read4 s set (pos + 4) origin (nextint-head s set pos origin (long .head) there), ← is, ← code, ← unit)
@@ -171,7 +176,7 @@ module _ (s : List ℕ) (set : Settings) (v pos origin : ℕ) (long : LongHead s
   pub ahead-long : (next b : ℕ) → PassedTo s (cursorAt (pos + 4 + 4) origin) (m * u) next → b ≡ xcdr2.stepBack (set .mode) lc
       → (k : ℕ) → k ≡ xcdr2.lengthFrom (set .mode) lc (m * u) → (r : Ahead) → r ≡ aheadOf (pos + 4 + 4 - b) k next → AheadIs s set (xcdr2.idOf v) (cursorAt pos origin) r
   ahead-long next b p back k size r f =
-      ahead2 s set pos origin (long .head) (long .version) v (long .is) (m * u) _ told-long k (pos + 4 + 4 - b) next r f (rw (← code) size) (rw (← code, ← back)) refl (omega arith) p
+      ahead2 s set pos origin (long .head) (long .version) v (long .is) (m * u) _ told-long k (pos + 4 + 4 - b) next r f (rw (← code) size) (rw (← code, ← back)) refl p
 
 -- a value that is not empty is not the end
 not-end : (id n : ℕ) → (n ≡ 0 → ⊥) → xcdr1.isEnd id n ≡ false
@@ -215,7 +220,7 @@ module _ (s : List ℕ) (set : Settings) (pos origin : ℕ) (head : HeadAt s pos
         rw (← e)
         (made s set (v % 16384) (cursorAt pos origin) (cursorAt (pos + 4) origin) n refl (own1 (set .version) v version)
         (λ w l. judged1 w ∙ (rw (on, ne-eqb (v % 16384) (w % 65536) (let f = asked1 (set .version) w version in omega arith)))) n (pos + 4) next r f
-        (judged1 (v % 16384) ∙ (rw (on, eq-eqb (v % 16384) (v % 16384 % 65536) (omega arith)))) (omega arith) p)
+        (judged1 (v % 16384) ∙ (rw (on, eq-eqb (v % 16384) (v % 16384 % 65536) (omega arith)))) (λ first. omega arith) p)
 
 -- nothing is said, or the same under the wanted id's own name
 pub ahead-none : (s : List ℕ) (set : Settings) (id : ℕ) (at : Cursor) (r : Ahead) → r ≡ aheadOf 0 0 0 → AheadIs s set id at r
@@ -237,9 +242,9 @@ module _ (version : Version) (pos origin : ℕ) (r : Cursor) where
 
 -- what the callers have of it: the lookup, and the place to ask for the next member
 module _ (s : List ℕ) (set : Settings) where
-  looked : (ver : Version) (id n v o : ℕ) (back : Cursor) → searchBy s set ver id back ≡ Found n (cursorAt v o) → 0 < n → lookedUp s set ver id back ≡ located.Found n (valueAt ver v o) back
+  looked : (ver : Version) (id n v o : ℕ) (back : Cursor) → searchBy s set ver id back ≡ Found n (cursorAt v o) → (ver ≡ Xcdr1 → 0 < n) → lookedUp s set ver id back ≡ located.Found n (valueAt ver v o) back
   unfolding searchBy lookedUp locatedV1 locatedV2 valueAt
-  looked Xcdr1 id n v o back e h = rw (e, lt-ltb _ _ h)
+  looked Xcdr1 id n v o back e h = rw (e, lt-ltb _ _ (h refl))
   looked Xcdr2 id n v o back e h = rw e
 
   pub ahead-located : (id least v : ℕ) (back at : Cursor) (r : Ahead) → alignTo s (set .version) back 4 ≡ place.At back → Leads s set back at least → least ≤ id

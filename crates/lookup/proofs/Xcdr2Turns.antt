@@ -103,14 +103,6 @@ module _ (mode : Mode) (lc n : ℕ) where
   unfolding lengthFrom
   found-more m b e = rw (m, e)
 
-  pub found-some : (m : ℕ) → m ≡ lengthFrom mode lc n → 0 < n → 0 < m
-  unfolding lengthFrom
-  found-some m e h = rw e (go mode)
-    where
-      go : (x : Mode) → 0 < lengthFrom x lc n
-      go Crate = h
-      go Standard = omega arith
-
 -- a whole header moves the cursor on, by its four bytes at least and not past the end
 got-same : (m : ℕ) (y : Cursor) (n : ℕ) (d : Cursor) → number.Got m y ≡ number.Got n d → y ≡ d
 got-same m y n d e = cc

@@ -22,7 +22,7 @@ use wire::settings::Settings;
 use wire::settings::Version;
 
 pub struct Ahead {
-    // Where the value starts; 0: the header there is not the wanted one, its value is empty, or something is missing.
+    // Where the value starts; 0: the header there is not the wanted one, its value is empty in XCDR1, or something is missing.
     pub value: usize,
     pub length: u64,
     // Where the next header stands; near the end of the data, where none can, any place there.
@@ -60,7 +60,7 @@ fn next_header(s: &[u8], at: usize, size: u64, origin: usize) -> usize
     next
 }
 
-// A header that has its length in NEXTINT. An empty value is left to the search.
+// A header that has its length in NEXTINT. A list that is empty has an empty value: that is read too.
 fn with_nextint(s: &[u8], set: Settings, emheader: u64, pos: usize, origin: usize) -> Ahead
     requires { ⌜ LongHead (now s) set emheader pos origin ⌝ }
     ensures { λ r. ⌜ AheadIs (now (s .entry)) set (idOf emheader) (cursorAt pos origin) r ⌝ }
@@ -73,9 +73,6 @@ fn with_nextint(s: &[u8], set: Settings, emheader: u64, pos: usize, origin: usiz
     }
     let code = lc(emheader);
     let length = from_bytes(s, order, head, 4) * unit(code);
-    if length == 0 {
-        return no_header();
-    }
     let body = head + 4;
     let next = next_header(s, body, length, origin);
     ahead_of(

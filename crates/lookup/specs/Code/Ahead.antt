@@ -59,12 +59,12 @@ pub record HeaderId (version : Version) (id : ℕ) : Type 0 where
   pub small : id < 2 ^ 28
   pub uncut : askedFor version id ≡ id
 
--- where the value's place is 0, nothing is said; else the search from here finds the value there, it is not empty, the id is one that a header
+-- where the value's place is 0, nothing is said; else the search from here finds the value there, in XCDR1 it is not empty, the id is one that a header
 -- has, and the next header's place is told
 unfoldable pub AheadAt : List ℕ → Settings → ℕ → Cursor → ℕ → ℕ → ℕ → Type 0
 AheadAt s set id at n next zero = Unit {0}
 AheadAt s set id at n next (suc v) =
-    (searchBy s set (set .version) id at ≡ Found n (cursorAt (suc v) (at .origin))) × (0 < n) × HeaderId (set .version) id × NextIs s set id at next
+    (searchBy s set (set .version) id at ≡ Found n (cursorAt (suc v) (at .origin))) × (set .version ≡ Xcdr1 → 0 < n) × HeaderId (set .version) id × NextIs s set id at next
 
 unfoldable pub AheadIs : List ℕ → Settings → ℕ → Cursor → Ahead → Type 0
 AheadIs s set id at r = AheadAt s set id at (r .length) (r .next) (r .value)

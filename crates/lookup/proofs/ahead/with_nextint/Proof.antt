@@ -28,12 +28,6 @@ unit-requires c κs = search needs
 mul-length : tie.Need-mul-length
 mul-length c = search (needs, times-word, times-fits, times-small)
 
-no-header-requires-2 : tie.Need-no-header-requires-2
-no-header-requires-2 c κs = search needs
-
-returns-2 : tie.Need-returns-2
-returns-2 c = search (needs, ahead-long, ahead-none, times-word, times-fits, times-small)
-
 add-body : tie.Need-add-body
 add-body c = search needs
 
@@ -52,8 +46,8 @@ length-from-requires c κs = search (needs, times-word, times-fits, times-small)
 ahead-of-requires : tie.Need-ahead-of-requires
 ahead-of-requires c κs = search needs
 
-returns-3 : tie.Need-returns-3
-returns-3 c = search (needs, ahead-long, ahead-none, times-word, times-fits, times-small)
+returns-2 : tie.Need-returns-2
+returns-2 c = search (needs, ahead-long, ahead-none, times-word, times-fits, times-small)
 
 pub with-nextint-spec : {M : Type 1} → statement M
 with-nextint-spec =
@@ -67,12 +61,10 @@ with-nextint-spec =
     from-bytes-requires
     unit-requires
     mul-length
-    no-header-requires-2
-    returns-2
     add-body
     next-header-requires
     step-back-requires
     sub-ahead-of
     length-from-requires
     ahead-of-requires
-    returns-3)
+    returns-2)
