@@ -88,6 +88,20 @@ boolean-inv (number.Got x c) v d e = (x, ap (number.Got x) (go (eqb x 0) (eqb x 
     go false true e = cc
     go false false e = absurd (let z : _≡_ {A = ℕ} 0 1 = cc in omega arith)
 
+-- what was read ends inside the data, so it begins there
+module _ (s : List ℕ) (set : Settings) where
+  number-placed : (c : Cursor) (w v : ℕ) (d : Cursor) → readNumber s set c w ≡ number.Got v d → InData s (placeBefore w (d .pos))
+  unfolding placeBefore
+  number-placed c w v d g = omega (arith, read-inv s set c w v d g .inside)
+
+  boolean-placed : (c : Cursor) (v : Bool) (d : Cursor) → readBoolean s set c ≡ boolean.Got v d → InData s (placeBefore 1 (d .pos))
+  unfolding readBoolean
+  boolean-placed c v d g = let n = boolean-inv (readNumber s set c 1) v d g in number-placed c 1 (n .0) d (n .1)
+
+  text-placed : (start n size : ℕ) → Inside s start n size → InData s (placeBefore 4 start)
+  unfolding placeBefore
+  text-placed start n size i = omega arith
+
 -- a kind that is stored as it is
 own-kind : (n : ℕ) (kind : ℕ) → storedOf n ≡ n → eqb kind n ≡ true → storedOf kind ≡ n
 own-kind n kind s e = rw (eqb-true kind n e) s
@@ -102,14 +116,14 @@ module _ {R : List Row → Type 0} (s : List ℕ) (bytes : AreBytes s) (set : Se
   unfolding scalarOf storedOf readFloat128
   scalar-settles c k h r r8 r16 =
       let F : Outcome → Type 0 = Settles R in
-      by-test F (eqb kind 1) (λ e. boolean-settles id k (readBoolean s set c) (λ a b v d g i. rw (own-kind 1 kind refl e) at (r a b _ (other 1 16 e tt) (other 1 17 e tt) (rw (own-kind 1 kind refl e) i) (boolean-placed c v d g)))) (λ n1.
-      by-test F (eqb kind 11) (λ e. float128-settles id k (readNumber s set c 16) (number-below s bytes set c 16) (λ a b v d g i. rw (own-kind 11 kind refl e) at (r a b _ (other 11 16 e tt) (other 11 17 e tt) (rw (own-kind 11 kind refl e) i) (number-placed c 16 v d g)))) (λ n11.
+      by-test F (eqb kind 1) (λ e. boolean-settles id k (readBoolean s set c) (λ a b v d g i. rw (own-kind 1 kind refl e) at (r a b _ (other 1 16 e tt) (other 1 17 e tt) (rw (own-kind 1 kind refl e) i) (boolean-placed s set c v d g)))) (λ n1.
+      by-test F (eqb kind 11) (λ e. float128-settles id k (readNumber s set c 16) (number-below s bytes set c 16) (λ a b v d g i. rw (own-kind 11 kind refl e) at (r a b _ (other 11 16 e tt) (other 11 17 e tt) (rw (own-kind 11 kind refl e) i) (number-placed s set c 16 v d g)))) (λ n11.
       by-test F (eqb kind 15) (λ e. absurd (apart (rw e at h))) (λ n15.
       by-test F (eqb kind 16)
-      (λ e. text-settles 16 id k (stringType s set c) (λ start n d g. r8 start n _ (eqb-true kind 16 e) (within8 start n d c g) (text-placed start n 1 (within8 start n d c g)))) (λ n16.
+      (λ e. text-settles 16 id k (stringType s set c) (λ start n d g. r8 start n _ (eqb-true kind 16 e) (within8 start n d c g) (text-placed s set start n 1 (within8 start n d c g)))) (λ n16.
       by-test F (eqb kind 17)
-      (λ e. text-settles 17 id k (wstringType s set c) (λ start n d g. r16 start n _ (eqb-true kind 17 e) (within16 start n d c g) (text-placed start n 2 (within16 start n d c g)))) (λ n17.
-      by-test F (isPrimitive kind) (λ e. number-settles kind id k (readNumber s set c (alignOf kind)) (λ v d g. number-range kind v (number-kind kind e n1 n11 n15) (number-below s bytes set c (alignOf kind) v d g)) (λ a b v d g i. r a b _ (eqb-false kind 16 n16) (eqb-false kind 17 n17) i (number-placed c (alignOf kind) v d g)))
+      (λ e. text-settles 17 id k (wstringType s set c) (λ start n d g. r16 start n _ (eqb-true kind 17 e) (within16 start n d c g) (text-placed s set start n 2 (within16 start n d c g)))) (λ n17.
+      by-test F (isPrimitive kind) (λ e. number-settles kind id k (readNumber s set c (alignOf kind)) (λ v d g. number-range kind v (number-kind kind e n1 n11 n15) (number-below s bytes set c (alignOf kind) v d g)) (λ a b v d g i. r a b _ (eqb-false kind 16 n16) (eqb-false kind 17 n17) i (number-placed s set c (alignOf kind) v d g)))
       (λ e. absurd (apart (sym e ∙ (rw (n15, n16, n17) at h)))))))))
     where
       other : (n m : ℕ) → eqb kind n ≡ true → T (not (eqb n m)) → kind ≡ m → ⊥
@@ -118,19 +132,6 @@ module _ {R : List Row → Type 0} (s : List ℕ) (bytes : AreBytes s) (set : Se
           clash : (b : Bool) → b ≡ true → T (not b) → ⊥
           clash true e t = t
           clash false e t = apart e
-
-      -- what was read ends inside the data, so it begins there
-      number-placed : (c : Cursor) (w v : ℕ) (d : Cursor) → readNumber s set c w ≡ number.Got v d → InData s (placeBefore w (d .pos))
-      unfolding placeBefore
-      number-placed c w v d g = omega (arith, read-inv s set c w v d g .inside)
-
-      boolean-placed : (c : Cursor) (v : Bool) (d : Cursor) → readBoolean s set c ≡ boolean.Got v d → InData s (placeBefore 1 (d .pos))
-      unfolding readBoolean
-      boolean-placed c v d g = let n = boolean-inv (readNumber s set c 1) v d g in number-placed c 1 (n .0) d (n .1)
-
-      text-placed : (start n size : ℕ) → Inside s start n size → InData s (placeBefore 4 start)
-      unfolding placeBefore
-      text-placed start n size i = omega arith
 
       within8 : (start n : ℕ) (d c : Cursor) → stringType s set c ≡ text.Got start n d → Inside s start n 1
       within8 start n d c g = omega (arith, string-inv s start n d set c g .0 .room, string-inv s start n d set c g .0 .inside)

@@ -144,7 +144,7 @@ module _ (s : List ℕ) (set : Settings) where
   unfolding locate
   found-inside id c n d back e =
       let m = move-inv located.Short (located.Found n d back) (λ x z. absurd (let q : _≡_ {A = ℕ} 0 1 = cc in omega arith)) (alignTo s (set .version) c 4) _ e in
-      found-begins n d back (looked-up (set .version) id (m .0) (align-inv s (set .version) c 4 (m .0) (m .1 .0) .1 .0)) (m .1 .1)
+      found-begins n d back (looked-up (set .version) id (m .0) (align-inv s (set .version) c 4 (m .0) (m .1) .1)) (m .2)
 
   pub locate-in : (id : ℕ) (c : Cursor) → c .pos ≤ length s → LocatedIn (length s) (locate s set id c)
   unfolding locate

@@ -108,7 +108,7 @@ module _ {end : ℕ} where
 
 places-wider : {m n : ℕ} {rs : List Row} → m ≤ n → PlacesWithin m rs → PlacesWithin n rs
 places-wider h no-row = no-row
-places-wider h (row-within p ps) = row-within (omega arith) (places-wider h ps)
+places-wider h (row-within {r} p ps) = row-within {r = r} (omega arith) (places-wider h ps)
 
 within-wider : {m n : ℕ} {o : Outcome} → m ≤ n → Within m o → Within n o
 within-wider h (read-within {c} l ps) = read-within {c = c} (omega arith) (places-wider h ps)
@@ -402,7 +402,7 @@ standard-within types s set m root room = reading-within types s set (standard-i
 
 -- ORDER 7, IN THE STANDARD'S MODE: "each place of a finished reading is at most the data's length", without exception
 places : {end : ℕ} {o : Outcome} {c : Cursor} {rs : List Row} → Within end o → o ≡ read c rs → PlacesWithin end rs
-places {end} (read-within {rs = qs} l ps) e = let z : qs ≡ _ = cc in rw z at ps
+places {rs = rs} (read-within {rs = qs} l ps) e = let z : qs ≡ rs = cc in rw z at ps
 places (short-within l) e = absurd (let z : _≡_ {A = ℕ} 0 1 = cc in omega arith)
 places refused-within e = absurd (let z : _≡_ {A = ℕ} 0 1 = cc in omega arith)
 
