@@ -92,8 +92,7 @@ pub fn differs(case: &Case, rules: &Reading, got: &Reply) -> Option<String> {
     if let Some(at) = misplaced(case, &got.rows) {
         return Some(format!("row {at} does not stand where it says: {:?}", got.rows[at]));
     }
-    let written = |rows: &Vec<[u64; 4]>| rows.iter().eq(got.rows.iter().map(|r| r.first_chunk().unwrap()));
-    if let Some(rows) = case.expected.as_ref().filter(|rows| !written(rows)) {
+    if let Some(rows) = case.expected.as_ref().filter(|rows| **rows != got.rows) {
         return Some(format!("{}: the value that was written has {} rows, and the port gives {} with others", case.way, rows.len(), got.number));
     }
     if !asks_the_crate(case, got.number) {
