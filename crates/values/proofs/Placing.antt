@@ -1,7 +1,7 @@
 -- What a row's place says, of order 7: "the data position of the value's first byte after alignment; for a text, of its length". `placeBefore` is reckoned from
 -- where the reading then stands; here it is where the alignment ended, and the bytes from there on spell what was read. Assumes nothing.
 use Prim.Native.Nat.{ℕ, _+_, _-_, _/_, _%_}
-use mathlib.Core.Path.{_≡_, refl, sym, ap}
+use mathlib.Core.Path.{_≡_, refl, sym, ap, _∙_}
 use mathlib.Core.Bool.{Bool, true, false}
 use mathlib.Core.List.{List}
 use native.Mathlib.Omega.{arith}
@@ -16,9 +16,8 @@ use Rattle.wire.specs.declared.number.Number.the-variants as number
 use Rattle.wire.specs.declared.cursor.Shortage.{Shortage}
 use Rattle.wire.specs.Place.{cursorAt, seekTo, alignTo}
 use Rattle.wire.specs.Number.{numberAt, onBytes, numberHere, onAligned, readNumber}
-use Rattle.wire.proofs.Moves.{seek-inv, move-inv}
+use Rattle.wire.proofs.Moves.{seek-inv, align-inv, move-inv}
 use Rattle.wire.proofs.Numbers.{number-inv}
-use Rattle.text.specs.declared.string.Text.{Text}
 use Rattle.text.specs.declared.string.Text.the-variants as text
 use Rattle.text.specs.Unicode.{utf8, utf16}
 use Rattle.text.specs.Text as textual
@@ -27,8 +26,7 @@ use Rattle.values.specs.Scalar.{placeBefore}
 
 -- a number of w bytes that was read: it was aligned to this place, and its value is what the w bytes from there on spell
 pub record StoodAt (s : List ℕ) (set : Settings) (c : Cursor) (w v p : ℕ) : Type 0 where
-  pub origin : ℕ
-  pub aligned : alignTo s (set .version) c w ≡ place.At (cursorAt p origin)
+  pub aligned : alignTo s (set .version) c w ≡ place.At (cursorAt p (c .origin))
   pub spelled : v ≡ numberAt (set .order) 0 s p w
 
 module _ (s : List ℕ) (set : Settings) (c : Cursor) (w v : ℕ) (d : Cursor) where
@@ -51,7 +49,11 @@ module _ (s : List ℕ) (set : Settings) (c : Cursor) (w v : ℕ) (d : Cursor) w
       go (place.Short x) f e = absurd (let z : _≡_ {A = ℕ} 0 1 = cc in omega arith)
       go (place.At a) f e =
           let h = here a (seekTo s a w) refl e in
-          record { origin = a .origin; aligned = rw (h .0) f; spelled = rw (h .0) (h .1) }
+          let o : a .origin ≡ c .origin = align-inv s (set .version) c w a f .2 in
+          record {
+            aligned = f ∙ ap (λ (x : ℕ). place.At (cursorAt x (a .origin))) (sym (h .0)) ∙ ap (λ (x : ℕ). place.At (cursorAt (placeBefore w (d .pos)) x)) o;
+            spelled = rw (h .0) (h .1);
+          }
 
 -- ---- a text's length
 
