@@ -41,6 +41,7 @@ u8 sinotayam_prepare(const u8 *, u64, u32 *, u64);
 u64 sinotayam_read_prepared(const u8 *, u64, const u32 *, u64, u16, const u8 *, u64, u8, u64 *, u64);
 #endif
 
+#define ROW 5
 #define WORDS (1 << 20)
 #define BYTES (1 << 18)
 static u8 in[1 << 20], out[1 << 20];
@@ -106,7 +107,7 @@ static void one(u64 book_length)
     u64 answer = sinotayam_read(book, book_length, root, message, length, standard, table, words);
     u64 rows = answer >> 8;
     u8 marks = 1 | 2;
-    for (u64 i = rows * 4; i < words; i++)
+    for (u64 i = rows * ROW; i < words; i++)
         if (table[i])
             marks &= ~1;
     u8 prepared = sinotayam_prepare(book, book_length, index, 65);
@@ -119,7 +120,7 @@ static void one(u64 book_length)
     put(&answer, 8);
     put(&marks, 1);
     if ((answer & 255) == 0)
-        put(table, rows * 32 <= (u64)words * 8 ? rows * 32 : 0);
+        put(table, rows * ROW <= (u64)words ? rows * ROW * 8 : 0);
 }
 
 int main(void)

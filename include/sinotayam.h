@@ -35,8 +35,10 @@ enum {
     SINOTAYAM_STANDARD = 1
 };
 
-/* The words of a row: kind, id, a, b. */
-#define SINOTAYAM_ROW 4
+/* The words of a row: kind, id, a, b, place. The place is where the row's value stood in the data, which is the message without its first four bytes: the first
+   byte of a number, of a text's length; for a structure, enum or union the place where it was opened, for a list that after its length, for an array that
+   after any DHEADER. A table holds as many rows as it has words for, divided by this. */
+#define SINOTAYAM_ROW 5
 
 /* The words in which the index of any book has room. */
 #define SINOTAYAM_INDEX 65

@@ -27,6 +27,7 @@ mod write;
 #[allow(dead_code, unused)]
 pub mod xtypes;
 
+use agree::WIDTH;
 use messages::Case;
 use oracle::Oracle;
 use std::hint::black_box;
@@ -62,13 +63,13 @@ unsafe fn stack_of(_: extern "C" fn(*mut Side), _: *mut Side) -> u64 {
 
 /// The rows of a message, after a check that the port and the crate agree on it; or the number that both refuse it with.
 fn rows_of(c: &Case) -> Result<usize, u8> {
-    let (mut table, mut again) = (vec![!0; 4 * 20_000], vec![!0; 4 * 20_000]);
+    let (mut table, mut again) = (vec![!0; WIDTH * 20_000], vec![!0; WIDTH * 20_000]);
     let mut index = [0; 65];
     let answer = port::read(&c.book, c.root, &c.message, c.standard, &mut table);
     assert_eq!(port::prepare(&c.book, &mut index), 0, "{}: prepare", c.name);
     assert_eq!(port::read_prepared(&c.book, &index, c.root, &c.message, c.standard, &mut again), answer, "{}: prepared", c.name);
     assert!(table == again, "{}: the prepared call leaves another table", c.name);
-    let rows: Vec<[u64; 4]> = table.chunks(4).take((answer >> 8) as usize).map(|r| r.try_into().unwrap()).collect();
+    let rows: Vec<agree::Words> = table.chunks(WIDTH).take((answer >> 8) as usize).map(|r| r.try_into().unwrap()).collect();
     let said = Oracle::new(&c.types).read(c.root, &c.its_own);
     if let Some(why) = agree::differs(&said, answer as u8, &rows, &c.message) {
         panic!("{}: {why}", c.name);
@@ -80,13 +81,13 @@ fn rows_of(c: &Case) -> Result<usize, u8> {
 }
 
 fn whole(c: &'static Case, name: &'static str, rows: usize) -> Side {
-    let mut table = vec![0; 4 * rows];
+    let mut table = vec![0; WIDTH * rows];
     let call = move || drop(black_box(port::read(black_box(&c.book), c.root, black_box(&c.message), c.standard, &mut table)));
     Side { message: c.name, name, call: Box::new(call) }
 }
 
 fn prepared(c: &'static Case, name: &'static str, rows: usize) -> Side {
-    let mut table = vec![0; 4 * rows];
+    let mut table = vec![0; WIDTH * rows];
     let mut index = [0; 65];
     port::prepare(&c.book, &mut index);
     let call = move || drop(black_box(port::read_prepared(black_box(&c.book), &index, c.root, black_box(&c.message), c.standard, &mut table)));

@@ -4,7 +4,7 @@ use crate::book::decode;
 use crate::gen::Case;
 use crate::oracle::Oracle;
 use crate::port::Reply;
-use crate::rules::Mode;
+use crate::rules::{Mode, Row};
 
 pub struct Entry {
     /// The rows of the table.
@@ -27,10 +27,13 @@ pub fn bytes(e: &Entry) -> Vec<u8> {
     all
 }
 
-pub fn lines(number: u8, rows: &[[u64; 4]]) -> String {
+/// The place of a row that the stored output does not tell: `compare/real` writes none.
+pub const UNTOLD: u64 = u64::MAX;
+
+pub fn lines(number: u8, rows: &[Row]) -> String {
     let mut all = format!("answer {number} rows {}\n", rows.len());
-    for [kind, id, a, b] in rows {
-        all.push_str(&format!("{kind} {id} {a} {b}\n"));
+    for [kind, id, a, b, place] in rows {
+        all.push_str(&format!("{kind} {id} {a} {b} {place}\n"));
     }
     all
 }
@@ -67,7 +70,8 @@ pub fn replies(said: &str) -> Vec<Reply> {
         let words: Vec<u64> = line.split(' ').filter_map(|w| w.parse().ok()).collect();
         match words[..] {
             [n, count] => all.push(Reply { number: n as u8, rows: Vec::new(), count, cleared: true, prepared: true }),
-            [kind, id, a, b] => all.last_mut().expect("an answer first").rows.push([kind, id, a, b]),
+            [kind, id, a, b, place] => all.last_mut().expect("an answer first").rows.push([kind, id, a, b, place]),
+            [kind, id, a, b] => all.last_mut().expect("an answer first").rows.push([kind, id, a, b, UNTOLD]),
             _ => panic!("the stored output: {line}"),
         }
     }
@@ -81,6 +85,9 @@ pub fn differs(folder: &str) -> Option<String> {
     let (entries, replies) = (entries(&input), replies(&output));
     assert_eq!(entries.len(), replies.len(), "entries and answers");
     entries.iter().zip(&replies).enumerate().find_map(|(i, (e, said))| {
+        if let Some(at) = crate::misplaced(&e.case, &said.rows) {
+            return Some(format!("entry {}: row {at} does not stand where it says", i + 1));
+        }
         if !crate::asks_the_crate(&e.case, said.number) {
             let r = crate::by_rules_in(&e.case, e.rows);
             return ((r.number, &r.rows) != (said.number, &said.rows)).then(|| format!("entry {}: the rules give {}", i + 1, r.number));

@@ -32,6 +32,7 @@ mod written;
 #[allow(dead_code, unused)]
 pub mod xtypes;
 
+use agree::WIDTH;
 use gen::Case;
 use oracle::Oracle;
 use port::{Batch, Port, Reply};
@@ -64,7 +65,14 @@ pub fn made(mode: Mode, seed: u64, number: u64) -> Case {
 
 /// The words of a table that has room for a reading, and some to spare.
 pub fn words_for(r: &Reading) -> usize {
-    4 * ROWS.min(r.needed + 20) + 3
+    WIDTH * ROWS.min(r.needed + 20) + WIDTH - 1
+}
+
+/// The first of these rows whose value does not stand where it says; in the standard's mode no row of all stands past the data's end.
+pub fn misplaced(case: &Case, rows: &[rules::Row]) -> Option<usize> {
+    let data = case.message.get(4..)?;
+    let inside = |r: &rules::Row| case.mode == Mode::Crate || r[4] <= data.len() as u64;
+    rows.iter().position(|r| !(agree::stands(r, data, case.message[1] % 2 == 0) && inside(r)))
 }
 
 /// Where the port differs from the rules or from the crate, in words.
@@ -80,6 +88,9 @@ pub fn differs(case: &Case, rules: &Reading, got: &Reply) -> Option<String> {
     }
     if let Some(at) = (0..rules.rows.len()).find(|i| rules.rows[*i] != got.rows[*i]) {
         return Some(format!("row {at}: the rules {:?}, the port {:?}", rules.rows[at], got.rows[at]));
+    }
+    if let Some(at) = misplaced(case, &got.rows) {
+        return Some(format!("row {at} does not stand where it says: {:?}", got.rows[at]));
     }
     if let Some(rows) = case.expected.as_ref().filter(|rows| **rows != got.rows) {
         return Some(format!("{}: the value that was written has {} rows, and the port gives {} with others", case.way, rows.len(), got.number));
@@ -164,6 +175,7 @@ impl Run {
 
     fn all(&mut self) {
         self.written();
+        self.real();
         let mut at = 0;
         while at < self.total {
             let n = (self.total - at).min(5000);
@@ -188,6 +200,17 @@ impl Run {
         }
         println!("{} written cases", all.len());
         self.window(all.into_iter().map(|w| w.case).collect(), 0);
+    }
+
+    /// The messages of real writers, all of them in this mode. `differs` looks at the bytes where each number and each text's length is said to stand.
+    fn real(&mut self) {
+        let list = std::path::Path::new(&self.cases).with_file_name("../crates/replay/stdin");
+        let all = list::entries(&std::fs::read(list).expect("the stored list"));
+        let real = all.into_iter().take(sample::REAL).filter(|e| e.case.mode == Mode::Standard);
+        let cases: Vec<Case> = real.map(|e| Case { mode: self.mode, ..e.case }).collect();
+        let rows: usize = cases.iter().map(|c| by_rules(c).rows.len()).sum();
+        println!("{} messages of real writers: {rows} rows, each held to the bytes at its place", cases.len());
+        self.window(cases, 0);
     }
 
     fn window(&mut self, cases: Vec<Case>, seed: u64) {
@@ -238,7 +261,7 @@ impl Run {
             batch.book(&c.book);
             for k in 0..=r.needed + 1 {
                 if k < 12 || k + 2 > r.needed || rng.chance(10) {
-                    batch.message(c.root, c.mode, 4 * k + rng.below(4), &c.message);
+                    batch.message(c.root, c.mode, WIDTH * k + rng.below(WIDTH), &c.message);
                     asked.push((c, r, k));
                 }
             }

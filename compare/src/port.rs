@@ -1,12 +1,12 @@
 // The port's program, run over a file of cases.
-use crate::rules::Mode;
+use crate::rules::{Mode, Row};
 use std::io::Write;
 use std::process::{Command, Stdio};
 
 #[derive(Clone, Debug, PartialEq)]
 pub struct Reply {
     pub number: u8,
-    pub rows: Vec<[u64; 4]>,
+    pub rows: Vec<Row>,
     pub count: u64,
     /// Zero after the last row, the whole table of a refusal too.
     pub cleared: bool,
@@ -73,6 +73,6 @@ fn reply(rest: &mut &[u8]) -> Reply {
     let answer = word(rest);
     let marks = take(rest, 1)[0];
     let (number, count) = (answer as u8, answer >> 8);
-    let rows = if number == 0 { (0..count).map(|_| [word(rest), word(rest), word(rest), word(rest)]).collect() } else { Vec::new() };
+    let rows = if number == 0 { (0..count).map(|_| std::array::from_fn(|_| word(rest))).collect() } else { Vec::new() };
     Reply { number, rows, count, cleared: marks & 1 != 0, prepared: marks & 2 != 0 }
 }

@@ -1,9 +1,10 @@
 // Document 01's reading rules, written a third time: plain Rust, with rows and room. The crate has neither, so the numbers that the port
-// adds, a text's place and the rows that a reading needs are checked against these; all else is checked against the crate. Order 1's second mode,
+// adds, a text's start, where each value stood and the rows that a reading needs are checked against these; all else is checked against the crate. Order 1's second mode,
 // XCDR2 as the standard reads it, stands in the same text: the mode is asked where the two differ, and the port is held to this alone there.
 mod leaves;
 
 use crate::book::{is_primitive, Member, Type, APPENDABLE, DEFAULT, FINAL, MUTABLE, OPTIONAL, USE_DEFAULT};
+pub use crate::agree::Words as Row;
 pub use leaves::stored;
 
 /// How XCDR2 is read; XCDR1 is read alike in both.
@@ -24,7 +25,7 @@ type Done<T> = Result<T, Fail>;
 
 pub struct Reading {
     pub number: u8,
-    pub rows: Vec<[u64; 4]>,
+    pub rows: Vec<Row>,
     /// The rows that a table must have room for, so that the reading does not end with 13.
     pub needed: usize,
     pub marks: Vec<&'static str>,
@@ -40,7 +41,7 @@ struct Reader<'a> {
     standard: bool,
     pos: usize,
     origin: usize,
-    rows: Vec<[u64; 4]>,
+    rows: Vec<Row>,
     needed: usize,
     most: usize,
     steps: usize,
@@ -110,7 +111,7 @@ impl<'a> Reader<'a> {
             return Err(Refused(12));
         }
         let at = self.rows.len();
-        self.row(t.kind, id, ty as u64, 0)?;
+        self.row(t.kind, id, ty as u64, 0, self.pos)?;
         match t.kind {
             21 => self.enumeration(t)?,
             _ if self.xcdr2 && t.ext != FINAL => self.delimited(t, depth)?,
@@ -373,20 +374,20 @@ impl<'a> Reader<'a> {
     fn elements(&mut self, t: &Type, id: u64, n: usize, depth: usize) -> Done<()> {
         let types = self.types;
         let e = &types[t.element as usize];
+        let place = self.pos;
         match e.kind {
             0 | 15 | 18 | 20 | 24..=27 => return Err(Refused(11)),
             2 | 13 => {
                 self.seek(n)?;
-                self.row(25, id, 13, n as u64)?;
+                self.row(25, id, 13, n as u64, place)?;
                 for i in 0..n {
-                    let x = self.data[self.pos - n + i];
-                    self.row(13, i as u64, x as u64, 0)?;
+                    self.row(13, i as u64, self.data[place + i] as u64, 0, place + i)?;
                 }
                 return Ok(());
             }
             _ => {}
         }
-        self.row(25, id, stored(e) as u64, n as u64)?;
+        self.row(25, id, stored(e) as u64, n as u64, place)?;
         for i in 0..n {
             if e.opens() {
                 self.nested(t.element, i as u64, depth + 1)?;

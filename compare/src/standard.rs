@@ -4,13 +4,13 @@ use crate::book::{encode, Type, DEFAULT};
 use crate::evolve;
 use crate::gen::{self, Case};
 use crate::rng::Rng;
-use crate::rules::{stored, Mode};
+use crate::rules::{stored, Mode, Row};
 use crate::writer::{Place, Value, What, Writer};
 
 /// The rows of a written value in the types that it is read with; false where document 01 has a refusal for it.
 struct Rows<'a> {
     types: &'a [Type],
-    rows: Vec<[u64; 4]>,
+    rows: Vec<Row>,
 }
 
 impl Rows<'_> {
@@ -18,30 +18,30 @@ impl Rows<'_> {
         let types = self.types;
         let t = &types[ty as usize];
         match v {
-            Value::Number(a, b) => self.rows.push([stored(t) as u64, id, *a, *b]),
-            Value::Text(start, n) => self.rows.push([t.kind as u64, id, *start, *n]),
-            Value::List(all) => {
-                self.rows.push([25, id, stored(&types[t.element as usize]) as u64, all.len() as u64]);
+            Value::Number(a, b, place) => self.rows.push([stored(t) as u64, id, *a, *b, *place]),
+            Value::Text(start, n, place) => self.rows.push([t.kind as u64, id, *start, *n, *place]),
+            Value::List(all, place) => {
+                self.rows.push([25, id, stored(&types[t.element as usize]) as u64, all.len() as u64, *place]);
                 return all.iter().enumerate().all(|(i, v)| self.value(t.element, i as u64, v));
             }
-            Value::Union(selected, all) => return selects(t, *selected, all) && self.opened(ty, id, all),
-            Value::Opened(all) => return self.opened(ty, id, all),
+            Value::Union(selected, all, place) => return selects(t, *selected, all) && self.opened(ty, id, all, *place),
+            Value::Opened(all, place) => return self.opened(ty, id, all, *place),
         }
         true
     }
 
-    fn opened(&mut self, ty: u16, id: u64, all: &[(u32, Value)]) -> bool {
+    fn opened(&mut self, ty: u16, id: u64, all: &[(u32, Value)], place: u64) -> bool {
         let t = &self.types[ty as usize];
         let at = self.rows.len();
-        self.rows.push([t.kind as u64, id, ty as u64, 0]);
+        self.rows.push([t.kind as u64, id, ty as u64, 0, place]);
         let read = self.members(t, all);
         self.rows[at][3] = (self.rows.len() - at - 1) as u64;
         read
     }
 
     fn members(&mut self, t: &Type, all: &[(u32, Value)]) -> bool {
-        if let (21, [(_, Value::Number(a, b))]) = (t.kind, all) {
-            self.rows.push([t.base as u64, 0, *a, *b]);
+        if let (21, [(_, Value::Number(a, b, place))]) = (t.kind, all) {
+            self.rows.push([t.base as u64, 0, *a, *b, *place]);
             return true;
         }
         t.members.iter().all(|m| match all.iter().find(|(id, _)| *id == m.id) {
@@ -54,9 +54,9 @@ impl Rows<'_> {
 /// Whether the reader's union selects the member that was written. It may have it no more; and document 01 refuses a union that selects none.
 fn selects(t: &Type, written: Option<u32>, all: &[(u32, Value)]) -> bool {
     let x = match &all[0].1 {
-        Value::Number(a, _) => *a,
-        Value::Opened(inside) => match inside[0].1 {
-            Value::Number(a, _) => a,
+        Value::Number(a, ..) => *a,
+        Value::Opened(inside, _) => match inside[0].1 {
+            Value::Number(a, ..) => a,
             _ => return false,
         },
         _ => return false,

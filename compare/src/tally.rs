@@ -156,7 +156,7 @@ impl Tally {
     }
 
     fn row(&mut self, c: &Case, r: &Reading, i: usize) {
-        let [kind, _, a, b] = r.rows[i];
+        let [kind, _, a, b, _] = r.rows[i];
         match kind {
             21..=23 => {
                 let t = &c.types[a as usize];

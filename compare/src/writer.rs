@@ -3,17 +3,17 @@
 use crate::book::{is_primitive, width, Member, Type, DEFAULT, FINAL, MUTABLE, OPTIONAL};
 use crate::rng::Rng;
 
-/// A value as it was written.
+/// A value as it was written. Each has its place in the data last, as order 7 says it.
 pub enum Value {
     /// The words a and b of its row.
-    Number(u64, u64),
-    /// Its place in the data; bytes, or units of 16 bits.
-    Text(u64, u64),
-    List(Vec<Value>),
+    Number(u64, u64, u64),
+    /// Where it starts; bytes, or units of 16 bits.
+    Text(u64, u64, u64),
+    List(Vec<Value>, u64),
     /// Members by their id; of an enum its value, by 0.
-    Opened(Vec<(u32, Value)>),
+    Opened(Vec<(u32, Value)>, u64),
     /// The id of the member that was selected, and what was written.
-    Union(Option<u32>, Vec<(u32, Value)>),
+    Union(Option<u32>, Vec<(u32, Value)>, u64),
 }
 
 #[derive(Clone, Copy, PartialEq)]
@@ -102,10 +102,16 @@ impl Writer<'_> {
         self.put(at, (self.out.len() - at - 4) as u32);
     }
 
-    fn length(&mut self, n: usize) {
+    /// A length, and where it stands.
+    fn length(&mut self, n: usize) -> usize {
         let place = self.open(What::Length);
         let at = self.places[place].at;
         self.put(at, n as u32);
+        at
+    }
+
+    fn here(&self) -> u64 {
+        self.out.len() as u64
     }
 
     /// A number of so many bytes, and its row's words.
@@ -113,7 +119,7 @@ impl Writer<'_> {
         self.number(n, x);
         let up = 128 - 8 * n as u32;
         let x = if signed { ((x << up) as i128 >> up) as u128 } else { x << up >> up };
-        Value::Number(x as u64, if n == 16 { (x >> 64) as u64 } else { 0 })
+        Value::Number(x as u64, if n == 16 { (x >> 64) as u64 } else { 0 }, self.here() - n as u64)
     }
 
     fn random(&mut self) -> u128 {
@@ -148,9 +154,10 @@ impl Writer<'_> {
 
     /// A number of a kind, a bitmask or an enum, whose value is given.
     fn held(&mut self, t: &Type, x: u128) -> Value {
+        let opening = self.here();
         match t.kind {
             19 => self.raw(t.mask_width(), false, x),
-            21 => Value::Opened(vec![(0, self.raw(width(t.base), true, x))]),
+            21 => Value::Opened(vec![(0, self.raw(width(t.base), true, x))], opening),
             k => self.raw(width(k), matches!(k, 3 | 4 | 5 | 12), x),
         }
     }
@@ -158,22 +165,22 @@ impl Writer<'_> {
     fn text8(&mut self) -> Value {
         let words = ["", "a", "ok", "truck 7", "\u{e9}t\u{e9}", "\u{20ac}", "\u{1f50b}", "0123456789abcdef"];
         let s = self.rng.pick(&words);
-        self.length(s.len() + 1);
-        let start = self.out.len();
+        let at = self.length(s.len() + 1);
+        let start = self.here();
         self.out.extend(s.as_bytes());
         self.out.push(0);
-        Value::Text(start as u64, s.len() as u64)
+        Value::Text(start, s.len() as u64, at as u64)
     }
 
     fn text16(&mut self) -> Value {
         let words: [&[u16]; 5] = [&[], &[0x41], &[0x41, 0x20ac], &[0xd83d, 0xdd0b], &[0x41, 0xd83d, 0xdd0b, 0x42]];
         let s = self.rng.pick(&words);
-        self.length(2 * s.len());
-        let start = self.out.len();
+        let at = self.length(2 * s.len());
+        let start = self.here();
         for u in s {
             self.number(2, *u as u128);
         }
-        Value::Text(start as u64, s.len() as u64)
+        Value::Text(start, s.len() as u64, at as u64)
     }
 
     fn list(&mut self, t: &Type) -> Value {
@@ -186,11 +193,12 @@ impl Writer<'_> {
         if t.kind == 25 {
             self.length(n);
         }
+        let place = self.here();
         let all = (0..n).filter_map(|_| self.value(t.element)).collect();
         if let Some(h) = header {
             self.close_dheader(h);
         }
-        Value::List(all)
+        Value::List(all, place)
     }
 
     fn opened(&mut self, t: &Type) -> Value {
@@ -198,6 +206,7 @@ impl Writer<'_> {
             let x = if self.rng.chance(50) { self.rng.below(12) as u128 } else { self.random() };
             return self.held(t, x);
         }
+        let opening = self.here();
         let header = (self.xcdr2 && t.ext != FINAL).then(|| self.open(What::Dheader));
         let mut all = Vec::new();
         let mut selected = None;
@@ -215,9 +224,9 @@ impl Writer<'_> {
             self.close_dheader(h);
         }
         if t.kind == 22 {
-            Value::Opened(all)
+            Value::Opened(all, opening)
         } else {
-            Value::Union(selected, all)
+            Value::Union(selected, all, opening)
         }
     }
 
@@ -308,9 +317,18 @@ impl Writer<'_> {
 /// Four bytes further on.
 fn shift(v: &mut Value) {
     match v {
-        Value::Number(..) => {}
-        Value::Text(start, _) => *start += 4,
-        Value::List(all) => all.iter_mut().for_each(shift),
-        Value::Opened(all) | Value::Union(_, all) => all.iter_mut().for_each(|(_, v)| shift(v)),
+        Value::Number(_, _, place) => *place += 4,
+        Value::Text(start, _, place) => {
+            *start += 4;
+            *place += 4;
+        }
+        Value::List(all, place) => {
+            *place += 4;
+            all.iter_mut().for_each(shift);
+        }
+        Value::Opened(all, place) | Value::Union(_, all, place) => {
+            *place += 4;
+            all.iter_mut().for_each(|(_, v)| shift(v));
+        }
     }
 }

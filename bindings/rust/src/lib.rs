@@ -38,7 +38,7 @@ mod ffi {
 }
 
 /// The words of a row in the table.
-pub const ROW: usize = 4;
+pub const ROW: usize = 5;
 
 /// The words in which the index of any book has room.
 const INDEX: usize = 65;
@@ -102,13 +102,21 @@ impl std::fmt::Display for Refusal {
 
 impl std::error::Error for Refusal {}
 
-/// One value: document 01's row.
+/// One value: document 01's row, and its place.
 #[derive(Clone, Copy, Debug, PartialEq, Eq)]
 pub struct Row {
     pub kind: u64,
     pub id: u64,
     pub a: u64,
     pub b: u64,
+    /// Where the value stood in the data.
+    pub place: u64,
+}
+
+impl Row {
+    fn of(w: &[u64]) -> Row {
+        Row { kind: w[0], id: w[1], a: w[2], b: w[3], place: w[4] }
+    }
 }
 
 /// The rows of a finished reading, in the lent table.
@@ -127,13 +135,12 @@ impl<'t> Rows<'t> {
     }
 
     pub fn get(&self, row: usize) -> Option<Row> {
-        let w = self.words.chunks_exact(ROW).nth(row)?;
-        Some(Row { kind: w[0], id: w[1], a: w[2], b: w[3] })
+        self.words.chunks_exact(ROW).nth(row).map(Row::of)
     }
 
     pub fn iter(&self) -> impl Iterator<Item = Row> + 't {
         let words = self.words;
-        words.chunks_exact(ROW).map(|w| Row { kind: w[0], id: w[1], a: w[2], b: w[3] })
+        words.chunks_exact(ROW).map(Row::of)
     }
 
     /// The bytes of a text row, in the data that the message was read from; none where the row is no text.

@@ -18,27 +18,27 @@ const LIST: &[u8] = b"\x00\x0b\x00\x00\x10\x00\x00\x00\x01\x00\x00\x40\x08\x00\x
 
 fn rows() -> Vec<Row> {
     vec![
-        Row { kind: 22, id: 0, a: 1, b: 1 },
-        Row { kind: 4, id: 7, a: -2i64 as u64, b: 0 },
+        Row { kind: 22, id: 0, a: 1, b: 1, place: 0 },
+        Row { kind: 4, id: 7, a: -2i64 as u64, b: 0, place: 0 },
     ]
 }
 
 #[test]
 fn example_1() {
-    let mut table = [7u64; 11];
+    let mut table = [7u64; 13];
     let got = read(BOOK, 1, MESSAGE, Mode::Crate, &mut table).unwrap();
     assert_eq!(got.len(), 2);
     assert_eq!(got.iter().collect::<Vec<_>>(), rows());
     assert_eq!(got.get(2), None);
-    assert_eq!(table[8..], [0, 0, 0]);
+    assert_eq!(table[10..], [0, 0, 0]);
 }
 
 #[test]
-fn example_3_has_room_in_8_words() {
-    let mut table = [7u64; 7];
+fn example_3_has_room_in_10_words() {
+    let mut table = [7u64; 9];
     assert_eq!(read(BOOK, 1, MESSAGE, Mode::Crate, &mut table).unwrap_err(), Refusal::NoRoom);
-    assert_eq!(table, [0; 7]);
-    assert!(read(BOOK, 1, MESSAGE, Mode::Crate, &mut [0u64; 8]).is_ok());
+    assert_eq!(table, [0; 9]);
+    assert!(read(BOOK, 1, MESSAGE, Mode::Crate, &mut [0u64; 10]).is_ok());
 }
 
 #[test]
@@ -46,6 +46,8 @@ fn example_12_is_a_text() {
     let mut table = [0u64; 64];
     let got = read(TEXT_BOOK, 1, TEXT, Mode::Crate, &mut table).unwrap();
     assert_eq!(got.text(1, data(TEXT)), Some("A"));
+    // its length stands right behind the header
+    assert_eq!(got.get(1).unwrap().place, 8);
     assert_eq!(got.text(0, data(TEXT)), None);
     assert_eq!(got.text(2, data(TEXT)), None);
     assert_eq!(got.bytes(1, &data(TEXT)[..12]), None);
@@ -56,13 +58,16 @@ fn example_10_in_both_modes() {
     let mut table = [0u64; 64];
     assert_eq!(read(LIST_BOOK, 2, LIST, Mode::Crate, &mut table).unwrap_err(), Refusal::NotEnoughData);
     let values = |rows: sinotayam::Rows| rows.iter().skip(2).map(|r| r.a).collect::<Vec<_>>();
+    let places = |rows: sinotayam::Rows| rows.iter().map(|r| r.place).collect::<Vec<_>>();
     assert_eq!(values(read(LIST_BOOK, 2, LIST, Mode::Standard, &mut table).unwrap()), [10, 11]);
+    assert_eq!(places(read(LIST_BOOK, 2, LIST, Mode::Standard, &mut table).unwrap()), [0, 16, 16, 18]);
     let book = Prepared::new(LIST_BOOK).unwrap();
     assert_eq!(values(book.read(2, LIST, Mode::Standard, &mut table).unwrap()), [10, 11]);
     assert_eq!(book.read(2, LIST, Mode::Crate, &mut table).unwrap_err(), Refusal::NotEnoughData);
     // eight zero bytes more
     let longer = [LIST, &[0; 8]].concat();
     assert_eq!(values(read(LIST_BOOK, 2, &longer, Mode::Crate, &mut table).unwrap()), [2, 0, 10, 11, 0, 0, 0, 0]);
+    assert_eq!(places(read(LIST_BOOK, 2, &longer, Mode::Crate, &mut table).unwrap()), [0, 12, 12, 14, 16, 18, 20, 22, 24, 26]);
     assert_eq!(values(read(LIST_BOOK, 2, &longer, Mode::Standard, &mut table).unwrap()), [10, 11]);
 }
 

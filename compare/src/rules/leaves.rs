@@ -82,9 +82,9 @@ impl Reader<'_> {
         }
     }
 
-    pub(super) fn row(&mut self, kind: u8, id: u64, a: u64, b: u64) -> Done<()> {
+    pub(super) fn row(&mut self, kind: u8, id: u64, a: u64, b: u64, place: usize) -> Done<()> {
         self.room()?;
-        self.rows.push([kind as u64, id, a, b]);
+        self.rows.push([kind as u64, id, a, b, place as u64]);
         Ok(())
     }
 
@@ -94,11 +94,11 @@ impl Reader<'_> {
         match kind {
             1 => {
                 let b = self.boolean()?;
-                self.row(1, id, b as u64, 0)
+                self.row(1, id, b as u64, 0, self.pos - 1)
             }
             11 => {
                 let x = self.number(16)?;
-                self.row(11, id, x as u64, (x >> 64) as u64)
+                self.row(11, id, x as u64, (x >> 64) as u64, self.pos - 16)
             }
             16 => {
                 let n = self.word()?;
@@ -109,7 +109,7 @@ impl Reader<'_> {
                 if std::str::from_utf8(&self.data[start..start + n]).is_err() {
                     return Err(Refused(2));
                 }
-                self.row(16, id, start as u64, n as u64)
+                self.row(16, id, start as u64, n as u64, start - 4)
             }
             17 => self.text16(id),
             k => {
@@ -117,7 +117,7 @@ impl Reader<'_> {
                 let x = self.number(n)? as u64;
                 let up = 64 - 8 * n as u32;
                 let x = if signed(k) { ((x << up) as i64 >> up) as u64 } else { x };
-                self.row(k, id, x, 0)
+                self.row(k, id, x, 0, self.pos - n)
             }
         }
     }
@@ -135,6 +135,6 @@ impl Reader<'_> {
         if char::decode_utf16(units).any(|c| c.is_err()) {
             return Err(Refused(2));
         }
-        self.row(17, id, start as u64, n as u64 / 2)
+        self.row(17, id, start as u64, n as u64 / 2, start - 4)
     }
 }

@@ -1,5 +1,5 @@
 // Document 01's bench examples, 1 to 13, run through the library, and each number of its table reached (4 never is).
-// The file stdout is written from document 01.
+// The file stdout is written from document 01, and each row's place from order 7 of document 02.
 use libc::STDOUT_FILENO;
 use sinotayam::answer::Status;
 use wire::settings::Mode;
@@ -228,19 +228,19 @@ fn numbers() {
     );
 }
 
-// Example 3: the room for rows, in tables of 7 and of 8 words.
+// Example 3: the room for rows, by order 7 in tables of 9 and of 10 words.
 fn rooms() {
-    let mut short = [0u64; 7];
+    let mut short = [0u64; 9];
     read_in(
-        b"3, 7 words",
+        b"3, 9 words",
         &INT32,
         1,
         b"\x00\x01\x00\x00\xfe\xff\xff\xff",
         &mut short,
     );
-    let mut enough = [0u64; 8];
+    let mut enough = [0u64; 10];
     read_in(
-        b"3, 8 words",
+        b"3, 10 words",
         &INT32,
         1,
         b"\x00\x01\x00\x00\xfe\xff\xff\xff",
@@ -258,7 +258,7 @@ fn lengths() {
 }
 
 fn data(name: &[u8], s: &[u8]) {
-    let mut table = [0u64; 8];
+    let mut table = [0u64; 10];
     title(name);
     let a = sinotayam::read_data(&INT32, 1, IDENTIFIER, s, Mode::Crate, &mut table);
     cases::lines::answer(a, &table);
@@ -315,7 +315,7 @@ fn prepared() {
 
 // Example 12's text: row 0 is no text, row 1 is, row 2 is all 0; and row 1 in data that ends before it.
 fn texts() {
-    let mut table = [0u64; 12];
+    let mut table = [0u64; 15];
     title(b"text");
     let message = b"\x00\x0b\x00\x00\x0a\x00\x00\x00\x01\x00\x00\x50\x02\x00\x00\x00\x41\x00";
     let a = sinotayam::read(&MUTABLE_STRING8, 1, message, Mode::Crate, &mut table);

@@ -12,7 +12,7 @@ fn text(s: &[u8]) {
     io::write_all(STDOUT_FILENO, s);
 }
 
-// Row i: kind, id, a, b.
+// Row i: kind, id, a, b, place.
 fn line(table: &[u64], i: usize) {
     let row = row_at(table, i);
     number(row.kind);
@@ -22,6 +22,8 @@ fn line(table: &[u64], i: usize) {
     number(row.a);
     text(b" ");
     number(row.b);
+    text(b" ");
+    number(row.place);
     text(b"\n");
 }
 

@@ -54,11 +54,11 @@ module _ {P : Refusal → Type 0} where
   ends-room zero p h = broken p
   ends-room (suc k) p h = h
 
-  pub ends-closed : {R Q : List Row → Type 0} {o : Outcome} (kind id ty : ℕ) → Ends R P o → ((rs : List Row) → R rs → Q (row kind id ty (length rs) ∷ rs)) → Ends Q P (closed kind id ty o)
+  pub ends-closed : {R Q : List Row → Type 0} {o : Outcome} (kind id ty opening : ℕ) → Ends R P o → ((rs : List Row) → R rs → Q (row kind id ty (length rs) opening ∷ rs)) → Ends Q P (closed kind id ty opening o)
   unfolding closed
-  ends-closed kind id ty (finished {rs = rs} r) q = finished (q rs r)
-  ends-closed kind id ty wanting q = wanting
-  ends-closed kind id ty (broken p) q = broken p
+  ends-closed kind id ty opening (finished {rs = rs} r) q = finished (q rs r)
+  ends-closed kind id ty opening wanting q = wanting
+  ends-closed kind id ty opening (broken p) q = broken p
 
   pub ends-back : {R : List Row → Type 0} {o : Outcome} (c : Cursor) → Ends R P o → Ends R P (backTo c o)
   unfolding backTo

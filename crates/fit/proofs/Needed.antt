@@ -297,7 +297,7 @@ module _ (types : List BookType) (set : Settings) (nest : Nest) (below : (s : Li
     unfolding openedIf bodyOf
     needs-opened false ty id c = needs-refused InvalidType bad-type
     needs-opened true ty id c =
-        needs-room (needs-closed _ id ty (needs-after 1 (needs-body-by (eqb (typeNo types ty .kind) 21) (typeNo types ty) c)))
+        needs-room (needs-closed _ id ty _ (needs-after 1 (needs-body-by (eqb (typeNo types ty .kind) 21) (typeNo types ty) c)))
 
 -- ---- the depth
 

@@ -76,9 +76,9 @@ pub needs-prepend : {o : ℕ → Outcome} (rs : List Row) → Needs o → Needs 
 unfolding prepend
 needs-prepend rs s = needs-by (prepend rs) refl (λ p r. ends-prepend rs r (λ ss u. tt)) s
 
-pub needs-closed : {o : ℕ → Outcome} (kind id ty : ℕ) → Needs o → Needs (λ k. closed kind id ty (o k))
+pub needs-closed : {o : ℕ → Outcome} (kind id ty opening : ℕ) → Needs o → Needs (λ k. closed kind id ty opening (o k))
 unfolding closed
-needs-closed kind id ty s = needs-by (closed kind id ty) refl (λ p r. ends-closed kind id ty r (λ ss u. tt)) s
+needs-closed kind id ty opening s = needs-by (closed kind id ty opening) refl (λ p r. ends-closed kind id ty opening r (λ ss u. tt)) s
 
 pub needs-back : {o : ℕ → Outcome} (c : Cursor) → Needs o → Needs (λ k. backTo c (o k))
 unfolding backTo

@@ -34,8 +34,8 @@ use Rattle.fit.specs.Room.{SameIfRoom}
 
 pub dropping : ℕ → Outcome
 dropping zero = refused NoRoom
-dropping (suc zero) = read (cursorAt 1 0) (row 13 0 7 0 ∷ [])
-dropping (suc (suc k)) = read (cursorAt 2 0) (row 13 0 7 0 ∷ row 13 1 8 0 ∷ [])
+dropping (suc zero) = read (cursorAt 1 0) (row 13 0 7 0 0 ∷ [])
+dropping (suc (suc k)) = read (cursorAt 2 0) (row 13 0 7 0 0 ∷ row 13 1 8 0 1 ∷ [])
 
 pub dropping-differs : SameIfRoom numberOf dropping → ⊥
 unfolding dropping numberOf rowsOf
@@ -71,7 +71,7 @@ module _ (mode : Mode) where
   abbrev set : Settings
   set = settings mode BigEndian Xcdr1
 
-  one-empty : (d : ℕ) (s : List ℕ) (i : ℕ) (c : Cursor) (k : ℕ) → nestedAt types set (suc d) s 0 i c k ≡ roomFor k (read c (row 22 i 0 0 ∷ []))
+  one-empty : (d : ℕ) (s : List ℕ) (i : ℕ) (c : Cursor) (k : ℕ) → nestedAt types set (suc d) s 0 i c k ≡ roomFor k (read c (row 22 i 0 0 (c .pos) ∷ []))
   unfolding nestedAt openedIf bodyOf bodyBy delimitedOf contentsOf membersOf membersIf fmembersOf endingOf hasEnding endingIf beginningOf mayFailUnheard unheardIf isMutable isStructure isDelimited closed prepend andThen afterContents contentsAt keepsEndsBy opens typeNo
   one-empty d s i c k = refl
 
@@ -81,7 +81,7 @@ module _ (mode : Mode) where
   elements-full d s zero i c k h = absurd (omega arith)
   elements-full d s (suc left) i c zero h = rw (one-empty d s i c 0)
   elements-full d s (suc left) i c (suc k) h =
-      full-after (nestedAt types set (suc d) s 0 i c (suc k)) c (row 22 i 0 0 ∷ []) (λ e used. openedFrom types s set (nestedAt types set (suc d)) 0 left (i + 1) e (suc k - used))
+      full-after (nestedAt types set (suc d) s 0 i c (suc k)) c (row 22 i 0 0 (c .pos) ∷ []) (λ e used. openedFrom types s set (nestedAt types set (suc d)) 0 left (i + 1) e (suc k - used))
       (one-empty d s i c (suc k)) (elements-full d s left (i + 1) c (suc k - 1) (omega arith))
 
   count-is : (n : ℕ) → readNumber (counting n) set (cursorAt 0 0) 4 ≡ number.Got n (cursorAt 4 0)

@@ -11,6 +11,8 @@ use Rattle.wire.specs.declared.settings.Settings.{Settings}
 use Rattle.wire.specs.declared.settings.Version.{Version}
 use Rattle.wire.specs.declared.settings.Version.the-variants.{Xcdr1, Xcdr2}
 use Rattle.wire.specs.declared.number.Number.the-variants as number
+use Rattle.wire.specs.Place.{alignTo}
+use Rattle.wire.proofs.Moves.{align-inv, move-inv}
 use Rattle.lookup.specs.declared.search.Seek.{Seek}
 use Rattle.lookup.specs.declared.search.Seek.the-variants as seek
 use Rattle.lookup.specs.declared.search.Turn.{Turn}
@@ -136,6 +138,13 @@ module _ (s : List ℕ) (set : Settings) where
   unfolding lookedUp
   looked-up Xcdr1 id back l = located-1 back l (seek-1 id back l)
   looked-up Xcdr2 id back l = located-2 back l (seek-2 id back l)
+
+  -- what is found begins inside the data, wherever the lookup began
+  pub found-inside : (id : ℕ) (c : Cursor) (n : ℕ) (d back : Cursor) → locate s set id c ≡ located.Found n d back → d .pos ≤ length s
+  unfolding locate
+  found-inside id c n d back e =
+      let m = move-inv located.Short (located.Found n d back) (λ x z. absurd (let q : _≡_ {A = ℕ} 0 1 = cc in omega arith)) (alignTo s (set .version) c 4) _ e in
+      found-begins n d back (looked-up (set .version) id (m .0) (align-inv s (set .version) c 4 (m .0) (m .1) .1)) (m .2)
 
   pub locate-in : (id : ℕ) (c : Cursor) → c .pos ≤ length s → LocatedIn (length s) (locate s set id c)
   unfolding locate

@@ -25,6 +25,7 @@ use Rattle.wire.specs.declared.number.Boolean.{Boolean}
 use Rattle.wire.specs.declared.number.Boolean.the-variants as boolean
 use Rattle.wire.specs.Place.{seekTo}
 use Rattle.wire.specs.Number.{readBoolean}
+use Rattle.wire.proofs.Numbers.{read-inv}
 use Rattle.kinds.specs.Kinds.{isPrimitive, opens, unsupportedMember, unsupportedElement}
 use Rattle.book.specs.Types.{BookType, Member, optional, default, typeNo}
 use Rattle.book.specs.Rules.{isEnum, isList}
@@ -59,6 +60,7 @@ use Rattle.fit.proofs.Fits.{every-one, fit-next, fit-below, members-sup
 use Rattle.fit.proofs.Ends.{finished, wanting, broken, ends-prepend, ends-then, ends-end, ends-room, ends-closed, ends-back, ends-as, ends-move, ends-contents, ends-number, by-test}
 use Rattle.fit.proofs.KindTests.{readable, read-stored, member-readable, element-readable, scalar-kind, text-kind, opened-kind, opened-flat, opened-union, primitive-read, base-is}
 use Rattle.fit.proofs.Cuts.{PartOf, part-cut}
+use Rattle.fit.proofs.Searches.{found-inside}
 use Rattle.fit.proofs.Unions.{never-unfit, selected-other}
 use Rattle.fit.proofs.Scalars.{bad-data, no-room, no-discriminator, Settles, scalar-settles}
 
@@ -80,6 +82,11 @@ settles-then-none rest h more = ends-then {S = NoRows} rest h more (λ rs ss r e
 array-count : (s : List ℕ) (set : Settings) (sequence : Bool) (bound : ℕ) (c : Cursor) (v : ℕ) (d : Cursor) → sequence ≡ false → countAt s set sequence bound c ≡ number.Got v d → v ≡ bound
 unfolding countAt
 array-count s set sequence bound c v d e g = let z : number.Got bound c ≡ number.Got v d = rw e at g in cc
+
+-- a sequence's length ends inside the data
+sequence-counted : (s : List ℕ) (set : Settings) (sequence : Bool) (bound : ℕ) (c : Cursor) (v : ℕ) (d : Cursor) → sequence ≡ true → countAt s set sequence bound c ≡ number.Got v d → d .pos ≤ length s
+unfolding countAt
+sequence-counted s set sequence bound c v d e g = read-inv s set c 4 v d (rw e at g) .inside
 
 list-is : (k : ℕ) → among (25 ∷ 26 ∷ []) k ≡ true → (eqb k 25 || eqb k 26) ≡ true
 list-is k = go (eqb k 25) (eqb k 26)
@@ -162,9 +169,9 @@ module _ (types : List BookType) (w : List ℕ) (set : Settings) (right : (k : �
     single-settles ty id c k h =
         let t = typeNo types ty in
         scalar-settles s (of .bytes) set (readAs t) id c k h
-        (λ a b p q g. rw (read-stored t) (shape.scalar a b (scalar-kind t (right ty .kind) h p q) (rw (read-stored t) at g)))
-        (λ start n e i. shape.text8 start n (text-kind t 16 refl e) (omega (arith, of .fits)))
-        (λ start n e i. shape.text16 start n (text-kind t 17 refl e) (omega (arith, of .fits)))
+        (λ a b at p q g l. rw (read-stored t) (shape.scalar a b at (scalar-kind t (right ty .kind) h p q) (rw (read-stored t) at g) (omega (arith, of .fits))))
+        (λ start n at e i l. shape.text8 start n at (text-kind t 16 refl e) (omega (arith, of .fits)) (omega (arith, of .fits)))
+        (λ start n at e i l. shape.text16 start n at (text-kind t 17 refl e) (omega (arith, of .fits)) (omega (arith, of .fits)))
 
     scalars-settle : (ty left i : ℕ) (c : Cursor) (k : ℕ) → readable (readAs (typeNo types ty)) ≡ true → Settles (Elements types w ty left i) (elementsFrom s set (readAs (typeNo types ty)) left i c k)
     unfolding elementsFrom
@@ -173,10 +180,10 @@ module _ (types : List BookType) (w : List ℕ) (set : Settings) (right : (k : �
         ends-then _ (single-settles ty i c k h) (λ d n. scalars-settle ty left (i + 1) d (k - n) h) (λ rs ss r s. shape.element r s)
 
     -- a list of them, whatever is said of its row and its elements
-    module _ {R : List Row → Type 0} (ty id count : ℕ) (r : (rs : List Row) → Elements types w ty count 0 rs → R (row 25 id (storedKind (typeNo types ty)) count ∷ rs)) where
-      list-settles : (c : Cursor) (k : ℕ) → readable (readAs (typeNo types ty)) ≡ true → Settles R (listOf s set (readAs (typeNo types ty)) id count c k)
+    module _ {R : List Row → Type 0} (ty id count : ℕ) (c : Cursor) (r : (rs : List Row) → Elements types w ty count 0 rs → R (row 25 id (storedKind (typeNo types ty)) count (c .pos) ∷ rs)) where
+      list-settles : (k : ℕ) → readable (readAs (typeNo types ty)) ≡ true → Settles R (listOf s set (readAs (typeNo types ty)) id count c k)
       unfolding listOf
-      list-settles c k h = rw (read-stored (typeNo types ty)) (ends-room k no-room (ends-prepend _ (scalars-settle ty count 0 c (k - 1) h) r))
+      list-settles k h = rw (read-stored (typeNo types ty)) (ends-room k no-room (ends-prepend _ (scalars-settle ty count 0 c (k - 1) h) r))
 
       block-settles : (p : Place) (o : Outcome) → Settles R o → Settles R (onBlock p o)
       unfolding onBlock
@@ -189,10 +196,10 @@ module _ (types : List BookType) (w : List ℕ) (set : Settings) (right : (k : �
     opened-elements ty (suc left) i c k o f =
         ends-then _ (below s of ty i c k o f) (λ d n. opened-elements ty left (i + 1) d (k - n) o f) (λ rs ss r s. shape.element (shape.nested r) s)
 
-    elements-settle : {R : List Row → Type 0} (ty id count : ℕ) → ((rs : List Row) → Elements types w ty count 0 rs → R (row 25 id (storedKind (typeNo types ty)) count ∷ rs))
-        → (c : Cursor) (k : ℕ) → unsupportedElement (typeNo types ty .kind) ≡ false → Fit checkClauses types depth ty → Settles R (elementsOf types s set nest ty id count c k)
+    elements-settle : {R : List Row → Type 0} (ty id count : ℕ) (c : Cursor) → ((rs : List Row) → Elements types w ty count 0 rs → R (row 25 id (storedKind (typeNo types ty)) count (c .pos) ∷ rs))
+        → (k : ℕ) → unsupportedElement (typeNo types ty .kind) ≡ false → Fit checkClauses types depth ty → Settles R (elementsOf types s set nest ty id count c k)
     unfolding elementsOf openedList primitivesOf bitmasksOrTextsOf blockOf
-    elements-settle {R} ty id count r c k u f =
+    elements-settle {R} ty id count c r k u f =
         let F : Outcome → Type 0 = Settles R in
         let t = typeNo types ty in
         by-test F (unsupportedElement (t .kind)) (λ e. absurd (apart (sym u ∙ e))) (λ n.
@@ -200,9 +207,9 @@ module _ (types : List BookType) (w : List ℕ) (set : Settings) (right : (k : �
         ends-room k no-room (ends-prepend _ (opened-elements ty count 0 c (k - 1) o f) (λ ss e. rw (opened-kind t (right ty .kind) o) at (r ss e)))) (λ o.
         let h : readable (readAs t) ≡ true = element-readable t (right ty .kind) u o in
         by-test F (isPrimitive (t .kind)) (λ p.
-        let own : Settles R (listOf s set (t .kind) id count c k) = rw (primitive-read t p) at (list-settles {R = R} ty id count r c k h) in
-        by-test F (among (2 ∷ 13 ∷ []) (t .kind)) (λ e. block-settles ty id count r (seekTo s c count) _ own) (λ n2. own))
-        (λ p. list-settles ty id count r c k h)))
+        let own : Settles R (listOf s set (t .kind) id count c k) = rw (primitive-read t p) at (list-settles {R = R} ty id count c r k h) in
+        by-test F (among (2 ∷ 13 ∷ []) (t .kind)) (λ e. block-settles ty id count c r (seekTo s c count) _ own) (λ n2. own))
+        (λ p. list-settles ty id count c r k h)))
 
     -- an array has as many elements as its bound says
     counted-settles : (ty id : ℕ) (c : Cursor) (k : ℕ) → among (25 ∷ 26 ∷ []) (typeNo types ty .kind) ≡ true → Fit checkClauses types depth ty → Settles (Value types w ty id) (countedOf types s set nest (typeNo types ty) id c k)
@@ -210,16 +217,16 @@ module _ (types : List BookType) (w : List ℕ) (set : Settings) (right : (k : �
     counted-settles ty id c k e f =
         let t = typeNo types ty in
         ends-number _ _ (λ count d g.
-        elements-settle (t .element) id count (rows count d g (eqb (t .kind) 25) refl) d k (list-element types t (element-supported f) (list-is (t .kind) e)) (fit-next (list-link t (list-is (t .kind) e)) f))
+        elements-settle (t .element) id count d (rows count d g (eqb (t .kind) 25) refl) k (list-element types t (element-supported f) (list-is (t .kind) e)) (fit-next (list-link t (list-is (t .kind) e)) f))
       where
         rows : (count : ℕ) (d : Cursor) → countAt s set (eqb (typeNo types ty .kind) 25) (typeNo types ty .bound) c ≡ number.Got count d
             → (b : Bool) → eqb (typeNo types ty .kind) 25 ≡ b → (rs : List Row) → Elements types w (typeNo types ty .element) count 0 rs
-            → Value types w ty id (row 25 id (storedKind (typeNo types (typeNo types ty .element))) count ∷ rs)
-        rows count d g true q rs x = shape.sequence count (eqb-true (typeNo types ty .kind) 25 q) x
+            → Value types w ty id (row 25 id (storedKind (typeNo types (typeNo types ty .element))) count (d .pos) ∷ rs)
+        rows count d g true q rs x = shape.sequence count (d .pos) (eqb-true (typeNo types ty .kind) 25 q) (omega (arith, of .fits, sequence-counted s set (eqb (typeNo types ty .kind) 25) (typeNo types ty .bound) c count d q g)) x
         rows count d g false q rs x =
             let t = typeNo types ty in
             let n : count ≡ t .bound = array-count s set (eqb (t .kind) 25) (t .bound) c count d q g in
-            rw n (shape.array (eqb-true (t .kind) 26 (one-second (eqb (t .kind) 25) (eqb (t .kind) 26) (list-is (t .kind) e) q)) (rw n at x))
+            rw n (shape.array (d .pos) (eqb-true (t .kind) 26 (one-second (eqb (t .kind) 25) (eqb (t .kind) 26) (list-is (t .kind) e) q)) (rw n at x))
 
   module _ (s : List ℕ) (of : PartOf w s) where
     list-value : (ty id : ℕ) (c : Cursor) (k : ℕ) → among (25 ∷ 26 ∷ []) (typeNo types ty .kind) ≡ true → Fit checkClauses types depth ty → Settles (Value types w ty id) (listValue types s set nest (typeNo types ty) id c k)
@@ -243,27 +250,27 @@ module _ (types : List BookType) (w : List ℕ) (set : Settings) (right : (k : �
 
     -- ---- a member
 
-    found-settles : (b : Bool) (m : Member) (length : ℕ) (c : Cursor) (k : ℕ) → byLength (set .version) (set .mode) types (typeNo types (m .type)) ≡ b → Ready types depth m → Settles (Held types w m) (foundBy types s set nest b m length c k)
+    found-settles : (b : Bool) (m : Member) (n : ℕ) (c : Cursor) (k : ℕ) → c .pos ≤ length w → byLength (set .version) (set .mode) types (typeNo types (m .type)) ≡ b → Ready types depth m → Settles (Held types w m) (foundBy types s set nest b m n c k)
     unfolding foundBy
-    found-settles true m length c k e h =
+    found-settles true m n c k inside e h =
         let t = typeNo types (m .type) in
         let q : eqb (t .kind) 25 ≡ true = by-length (set .version) (set .mode) types t e in
         let l : (eqb (t .kind) 25 || eqb (t .kind) 26) ≡ true = rw q in
-        elements-settle s of (t .element) (m .id) (elementCount types t length) (λ rs x. shape.present (shape.sequence _ (eqb-true (t .kind) 25 q) x)) c k (list-element types t (element-supported (h .fit)) l) (fit-next (list-link t l) (h .fit))
-    found-settles false m length c k e h = value-settles m c k h
+        elements-settle s of (t .element) (m .id) (elementCount types t n) c (λ rs x. shape.present (shape.sequence _ (c .pos) (eqb-true (t .kind) 25 q) inside x)) k (list-element types t (element-supported (h .fit)) l) (fit-next (list-link t l) (h .fit))
+    found-settles false m n c k inside e h = value-settles m c k h
 
   module _ (s : List ℕ) (of : PartOf w s) where
     -- from the data up to the member's own end
-    located-settles : (m : Member) (k : ℕ) (l : Located) → Ready types depth m → Settles (Held types w m) (onLocated types s set nest m k l)
+    located-settles : (m : Member) (k : ℕ) (l : Located) → ((n : ℕ) (c back : Cursor) → l ≡ located.Found n c back → c .pos ≤ length s) → Ready types depth m → Settles (Held types w m) (onLocated types s set nest m k l)
     unfolding onLocated foundOf foundValue
-    located-settles m k (located.Short x) h = wanting
-    located-settles m k (located.Absent back) h = finished shape.absent
-    located-settles m k (located.Found length c back) h =
-        ends-back back (found-settles (cutAt set s (c .pos + length)) (part-cut set s (c .pos + length) of) (byLength (set .version) (set .mode) types (typeNo types (m .type))) m length c k refl h)
+    located-settles m k (located.Short x) inside h = wanting
+    located-settles m k (located.Absent back) inside h = finished shape.absent
+    located-settles m k (located.Found n c back) inside h =
+        ends-back back (found-settles (cutAt set s (c .pos + n)) (part-cut set s (c .pos + n) of) (byLength (set .version) (set .mode) types (typeNo types (m .type))) m n c k (omega (arith, of .fits, inside n c back refl)) refl h)
 
     mmember-settles : (m : Member) (c : Cursor) (k : ℕ) → Ready types depth m → Settles (Held types w m) (mmemberOf types s set nest m c k)
     unfolding mmemberOf
-    mmember-settles m c k h = located-settles m k (locate s set (m .id) c) h
+    mmember-settles m c k h = located-settles m k (locate s set (m .id) c) (λ n d back e. found-inside s set (m .id) c n d back e) h
 
     present-settles : (m : Member) (k : ℕ) (b : Boolean) → Ready types depth m → Settles (Held types w m) (onPresent types s set nest m k b)
     unfolding onPresent
@@ -371,7 +378,7 @@ module _ (types : List BookType) (w : List ℕ) (set : Settings) (right : (k : �
     enum-settles t c k e b =
         let base = base-is (t .base) b in
         rw b
-        (scalar-settles s (of .bytes) set (t .base) 0 c k (base .reads) (λ x y p q g. rw (base .stored) (shape.enum x y e b (rw (base .stored) at g))) (λ start n z i. absurd (base .noText8 z)) (λ start n z i. absurd (base .noText16 z)))
+        (scalar-settles s (of .bytes) set (t .base) 0 c k (base .reads) (λ x y at p q g l. rw (base .stored) (shape.enum x y at e b (rw (base .stored) at g) (omega (arith, of .fits)))) (λ start n at z i l. absurd (base .noText8 z)) (λ start n at z i l. absurd (base .noText16 z)))
 
   module _ (ty : ℕ) (o : Openable types depth ty) where
     abbrev own : BookType
@@ -408,7 +415,7 @@ module _ (types : List BookType) (w : List ℕ) (set : Settings) (right : (k : �
       opened-settles : (id : ℕ) (c : Cursor) (k : ℕ) → Settles (Opened types w ty id) (openedIf types s set nest (opens (own .kind)) ty id c k)
       unfolding openedIf bodyOf
       opened-settles id c k =
-          rw (o .opens) (ends-room k no-room (ends-closed _ _ _ (body-by (eqb (own .kind) 21) c (k - 1) refl) (λ rs x. shape.opened x)))
+          rw (o .opens) (ends-room k no-room (ends-closed _ _ _ _ (body-by (eqb (own .kind) 21) c (k - 1) refl) (λ rs x. shape.opened _ x)))
 
 -- a value of a fit type, where as many values may be opened as its longest chain has
 pub nested-settles : (types : List BookType) (w : List ℕ) (set : Settings) → ((k : ℕ) → Right types k) → (depth : ℕ) (s : List ℕ) → PartOf w s → (ty id : ℕ) (c : Cursor) (k : ℕ) → opens (typeNo types ty .kind) ≡ true

@@ -50,7 +50,7 @@ pub data BooleanIn (end : ℕ) : Boolean → Type 0 where
   no-boolean : {x : Shortage} → x .at .pos ≤ end → BooleanIn end (boolean.Short x)
 
 pub data TextIn (end : ℕ) : Text → Type 0 where
-  text-in : {start n : ℕ} {c : Cursor} → c .pos ≤ end → TextIn end (text.Got start n c)
+  text-in : {start n : ℕ} {c : Cursor} → start ≤ end → c .pos ≤ end → TextIn end (text.Got start n c)
   bad-text : TextIn end text.Bad
   no-text : {x : Shortage} → x .at .pos ≤ end → TextIn end (text.Short x)
 
@@ -115,9 +115,9 @@ module _ (s : List ℕ) where
 
   -- ---- texts
 
-  text-if : (good : Bool) (start n : ℕ) (c : Cursor) → c .pos ≤ length s → TextIn (length s) (textIf good start n c)
-  text-if true start n c l = text-in l
-  text-if false start n c l = bad-text
+  text-if : (good : Bool) (start n : ℕ) (c : Cursor) → start ≤ length s → c .pos ≤ length s → TextIn (length s) (textIf good start n c)
+  text-if true start n c b l = text-in b l
+  text-if false start n c b l = bad-text
 
   abbrev failing : (x : Shortage) → x .at .pos ≤ length s → TextIn (length s) (text.Short x)
   failing x l = no-text l
@@ -127,7 +127,7 @@ module _ (s : List ℕ) where
   bytes-here c n l =
       let F : Text → Type 0 = TextIn (length s) in
       after-move F (length s) text.Short failing (seek-in c n l) _ (λ d k.
-      after-move F (length s) text.Short failing (seek-in d 1 k) _ (λ e h. text-if (utf8 (part s (c .pos) n)) (c .pos) n e h))
+      after-move F (length s) text.Short failing (seek-in d 1 k) _ (λ e h. text-if (utf8 (part s (c .pos) n)) (c .pos) n e l h))
 
   pub string-in : (set : Settings) (c : Cursor) → c .pos ≤ length s → TextIn (length s) (stringType s set c)
   unfolding stringType
@@ -143,16 +143,16 @@ module _ (s : List ℕ) where
   read-units set zero c l = units-in l
   read-units set (suc n) c l = after-number (UnitsIn (length s)) (length s) textual.short (λ x k. no-units k) (read-in set c 2 l) _ (λ u d k. unit-then u (read-units set n d k))
 
-  on-units : (start n : ℕ) {r : Units} → UnitsIn (length s) r → TextIn (length s) (onUnits start n r)
+  on-units : (start n : ℕ) {r : Units} → start ≤ length s → UnitsIn (length s) r → TextIn (length s) (onUnits start n r)
   unfolding onUnits
-  on-units start n (units-in {us} {c} l) = text-if (utf16 us) start n c l
-  on-units start n (no-units l) = no-text l
+  on-units start n b (units-in {us} {c} l) = text-if (utf16 us) start n c b l
+  on-units start n b (no-units l) = no-text l
 
   wide-here : (set : Settings) (c : Cursor) (n : ℕ) → c .pos ≤ length s → TextIn (length s) (wideHere s set c n)
   unfolding wideHere unitsHere
   wide-here set c n l =
       let F : Text → Type 0 = TextIn (length s) in
-      by-test F (eqb n 0) (λ e. text-in l) (λ z. by-test F (eqb (n % 2) 1) (λ e. bad-text) (λ e. on-units (c .pos) (n / 2) (read-units set (n / 2) c l)))
+      by-test F (eqb n 0) (λ e. text-in l l) (λ z. by-test F (eqb (n % 2) 1) (λ e. bad-text) (λ e. on-units (c .pos) (n / 2) l (read-units set (n / 2) c l)))
 
   pub wstring-in : (set : Settings) (c : Cursor) → c .pos ≤ length s → TextIn (length s) (wstringType s set c)
   unfolding wstringType

@@ -30,23 +30,23 @@ row-in : (r : Row) → among (3 ∷ 4 ∷ 6 ∷ 7 ∷ 12 ∷ 13 ∷ []) (r .kind
 unfolding discriminatorIn
 row-in r e z = let q : _≡_ {A = ℕ} 0 1 = cc (rw e at z) in omega arith
 
-row-of : (kind id a b : ℕ) → among (3 ∷ 4 ∷ 6 ∷ 7 ∷ 12 ∷ 13 ∷ []) kind ≡ true → discriminatorOf (row kind id a b ∷ []) ≡ Unfit → ⊥
+row-of : (kind id a b p : ℕ) → among (3 ∷ 4 ∷ 6 ∷ 7 ∷ 12 ∷ 13 ∷ []) kind ≡ true → discriminatorOf (row kind id a b p ∷ []) ≡ Unfit → ⊥
 unfolding discriminatorOf every
-row-of kind id a b e z =
+row-of kind id a b p e z =
     let n : eqb kind 21 ≡ false = not-true (eqb kind 21) (among-each (λ k. not (eqb k 21)) (3 ∷ 4 ∷ 6 ∷ 7 ∷ 12 ∷ 13 ∷ []) tt kind e) in
-    row-in (row kind id a b) e (rw n at z)
+    row-in (row kind id a b p) e (rw n at z)
 
 pub never-unfit : (types : List BookType) (s : List ℕ) (m : Member) (rs : List Row) → Held types s m rs → chooses (typeNo types (m .type)) ≡ true → discriminatorOf rs ≡ Unfit → ⊥
 unfolding discriminatorOf enumIn chooses
 never-unfit types s m rs shape.absent c z = let q : _≡_ {A = ℕ} 0 1 = cc in omega arith
-never-unfit types s m rs (shape.present (shape.one (shape.scalar a b n g))) c z = row-of (storedKind (typeNo types (m .type))) (m .id) a b (chosen-stored (typeNo types (m .type)) c n) z
-never-unfit types s m rs (shape.present (shape.one (shape.text8 start n e i))) c z = apart (rw e at c)
-never-unfit types s m rs (shape.present (shape.one (shape.text16 start n e i))) c z = apart (rw e at c)
-never-unfit types s m rs (shape.present (shape.one (shape.nested (shape.opened (shape.enum a b e f g))))) c z = row-in (row (typeNo types (m .type) .base) 0 a b) (base-is (typeNo types (m .type) .base) f .chooses) (rw e at z)
-never-unfit types s m rs (shape.present (shape.one (shape.nested (shape.opened (shape.structure e x))))) c z = apart (rw e at c)
-never-unfit types s m rs (shape.present (shape.one (shape.nested (shape.opened (shape.union v e p h g q o k))))) c z = apart (rw e at c)
-never-unfit types s m rs (shape.present (shape.sequence n e x)) c z = apart (rw e at c)
-never-unfit types s m rs (shape.present (shape.array e x)) c z = apart (rw e at c)
+never-unfit types s m rs (shape.present (shape.one (shape.scalar a b p n g l))) c z = row-of (storedKind (typeNo types (m .type))) (m .id) a b p (chosen-stored (typeNo types (m .type)) c n) z
+never-unfit types s m rs (shape.present (shape.one (shape.text8 start n p e i l))) c z = apart (rw e at c)
+never-unfit types s m rs (shape.present (shape.one (shape.text16 start n p e i l))) c z = apart (rw e at c)
+never-unfit types s m rs (shape.present (shape.one (shape.nested (shape.opened at (shape.enum a b p e f g l))))) c z = row-in (row (typeNo types (m .type) .base) 0 a b p) (base-is (typeNo types (m .type) .base) f .chooses) (rw e at z)
+never-unfit types s m rs (shape.present (shape.one (shape.nested (shape.opened at (shape.structure e x))))) c z = apart (rw e at c)
+never-unfit types s m rs (shape.present (shape.one (shape.nested (shape.opened at (shape.union v e p h g q o k))))) c z = apart (rw e at c)
+never-unfit types s m rs (shape.present (shape.sequence n p e l x)) c z = apart (rw e at c)
+never-unfit types s m rs (shape.present (shape.array p e x)) c z = apart (rw e at c)
 
 -- ---- the member that is selected is another than the discriminator
 

@@ -1,9 +1,9 @@
--- A POSITION NEVER PASSES THE DATA'S END, but for XCDR2 in the crate's mode: one law for each rule of the reader, over one hypothesis about how values
+-- A POSITION NEVER PASSES THE DATA'S END, nor does the place of a row, but for XCDR2 in the crate's mode: one law for each rule of the reader, over one hypothesis about how values
 -- are opened; then the depth. No check of the type is asked for. Assumes nothing.
 use Prim.Native.Nat.{ℕ, zero, suc, _+_, _-_, _≤_}
 use mathlib.Core.Path.{_≡_}
 use mathlib.Core.Bool.{Bool, true, false}
-use mathlib.Core.List.{List, [], _∷_}
+use mathlib.Core.List.{List, [], _∷_, _++_}
 use mathlib.Core.Option.{Option, none, some}
 use native.Mathlib.Omega.{arith}
 use lib.Dec.{eqb}
@@ -36,7 +36,7 @@ use Rattle.table.specs.declared.rows.Row.{Row}
 use Rattle.table.specs.declared.out.Refusal.{Refusal}
 use Rattle.table.specs.declared.out.Refusal.the-variants.{InvalidData}
 use Rattle.table.specs.Outcome.{Outcome, read, short, refused, roomFor, prepend, andThen, orEndIf, closed, backTo}
-use Rattle.values.specs.Scalar.{rowed, onBoolean, onFloat128, onNumber, onText, scalarOf, enumOf}
+use Rattle.values.specs.Scalar.{rowed, placeBefore, onBoolean, onFloat128, onNumber, onText, scalarOf, enumOf}
 use Rattle.values.specs.List.{elementsFrom, listOf, onBlock, blockOf, primitivesOf, bitmasksOrTextsOf}
 use Rattle.values.specs.Count.{countAt}
 use Rattle.reader.specs.Value.{Nest, readAs, isSequence, openedFrom, openedList, elementsOf, countedOf, hasDheader, listEndIf, listEnd, listValue, valueOf}
@@ -44,7 +44,7 @@ use Rattle.reader.specs.Member.{byLength, elementCount, foundBy, foundValue, fo
 use Rattle.reader.specs.Structure.{absorbs, fmembersOf, mmembersOf}
 use Rattle.reader.specs.Union.{memberBy, discriminatorBy, onSelected, onDiscriminator, chosenOf, membersBy}
 use Rattle.reader.specs.Nested.{isMutable, isStructure, isDelimited, unheard, unheardIf, beginningOf, endingBy, endingIf, endingOf, membersIf, membersOf, contentsOf, delimitedOf, bodyBy, bodyOf, openedIf, tooDeepIf, nestedAt, reading}
-use Rattle.fit.specs.Within.{Within, read-within, short-within, refused-within, StaysInside}
+use Rattle.fit.specs.Within.{PlacesWithin, no-row, row-within, Within, read-within, short-within, refused-within, StaysInside}
 use Rattle.fit.proofs.Ends.{by-test}
 use Rattle.fit.proofs.Cuts.{cut-shorter, cut-keeps}
 use Rattle.fit.proofs.Standing.{PlaceIn, place-in, no-place, NumberIn, number-in, no-number, BooleanIn, boolean-in, bad-boolean, no-boolean, TextIn, text-in, bad-text, no-text, ContentsIn, contents-in, contents-past, no-contents}
@@ -54,22 +54,26 @@ use Rattle.fit.proofs.Searches.{LocatedIn, located-in, absent-in, no-lo
 -- ---- one law for each way in which outcomes are put together
 
 module _ {end : ℕ} where
-  within-prepend : {o : Outcome} (rs : List Row) → Within end o → Within end (prepend rs o)
+  places-append : {rs ss : List Row} → PlacesWithin end rs → PlacesWithin end ss → PlacesWithin end (rs ++ ss)
+  places-append no-row qs = qs
+  places-append (row-within p ps) qs = row-within p (places-append ps qs)
+
+  within-prepend : {o : Outcome} {rs : List Row} → PlacesWithin end rs → Within end o → Within end (prepend rs o)
   unfolding prepend
-  within-prepend rs (read-within l) = read-within l
-  within-prepend rs (short-within l) = short-within l
-  within-prepend rs refused-within = refused-within
+  within-prepend ps (read-within l qs) = read-within l (places-append ps qs)
+  within-prepend ps (short-within l) = short-within l
+  within-prepend ps refused-within = refused-within
 
   within-then : {o : Outcome} (rest : Cursor → ℕ → Outcome) → Within end o → ((c : Cursor) (n : ℕ) → c .pos ≤ end → Within end (rest c n)) → Within end (andThen o rest)
   unfolding andThen
-  within-then rest (read-within {c} {rs} l) more = within-prepend rs (more c (length rs) l)
+  within-then rest (read-within {c} {rs} l ps) more = within-prepend ps (more c (length rs) l)
   within-then rest (short-within l) more = short-within l
   within-then rest refused-within more = refused-within
 
   within-end : {o : Outcome} (flag : Bool) (rest : Cursor → ℕ → Outcome) → Within end o → ((c : Cursor) (n : ℕ) → c .pos ≤ end → Within end (rest c n)) → Within end (orEndIf flag o rest)
   unfolding orEndIf
-  within-end flag rest (read-within {c} {rs} l) more = within-prepend rs (more c (length rs) l)
-  within-end true rest (short-within l) more = read-within l
+  within-end flag rest (read-within {c} {rs} l ps) more = within-prepend ps (more c (length rs) l)
+  within-end true rest (short-within l) more = read-within l no-row
   within-end false rest (short-within l) more = short-within l
   within-end flag rest refused-within more = refused-within
 
@@ -78,18 +82,18 @@ module _ {end : ℕ} where
   within-room zero h = refused-within
   within-room (suc k) h = h
 
-  within-closed : {o : Outcome} (kind id ty : ℕ) → Within end o → Within end (closed kind id ty o)
+  within-closed : {o : Outcome} (kind id ty opening : ℕ) → opening ≤ end → Within end o → Within end (closed kind id ty opening o)
   unfolding closed
-  within-closed kind id ty (read-within l) = read-within l
-  within-closed kind id ty (short-within l) = short-within l
-  within-closed kind id ty refused-within = refused-within
+  within-closed kind id ty opening h (read-within l ps) = read-within l (row-within h ps)
+  within-closed kind id ty opening h (short-within l) = short-within l
+  within-closed kind id ty opening h refused-within = refused-within
 
-  -- the place that comes back is all that is told
-  within-back : (c : Cursor) → c .pos ≤ end → (o : Outcome) → Within end (backTo c o)
+  -- beside its rows, the place that comes back is all that is told
+  within-back : {o : Outcome} (c : Cursor) → c .pos ≤ end → Within end o → Within end (backTo c o)
   unfolding backTo
-  within-back c l (read d rs) = read-within l
-  within-back c l (short x) = short-within l
-  within-back c l (refused k) = refused-within
+  within-back c l (read-within k ps) = read-within l ps
+  within-back c l (short-within k) = short-within l
+  within-back c l refused-within = refused-within
 
   within-contents : {g : Contents} (k : Refusal) (next : Cursor → ℕ → Outcome) → ContentsIn end g → ((c : Cursor) (own : ℕ) → c .pos ≤ own → own ≤ end → Within end (next c own)) → Within end (afterContents short (refused k) g next)
   unfolding afterContents
@@ -102,37 +106,46 @@ module _ {end : ℕ} where
   within-block (place-in l) h = h
   within-block (no-place l) h = short-within l
 
+places-wider : {m n : ℕ} {rs : List Row} → m ≤ n → PlacesWithin m rs → PlacesWithin n rs
+places-wider h no-row = no-row
+places-wider h (row-within {r} p ps) = row-within {r = r} (omega arith) (places-wider h ps)
+
 within-wider : {m n : ℕ} {o : Outcome} → m ≤ n → Within m o → Within n o
-within-wider h (read-within {c} l) = read-within {c = c} (omega arith)
+within-wider h (read-within {c} l ps) = read-within {c = c} (omega arith) (places-wider h ps)
 within-wider h (short-within {x} l) = short-within {x = x} (omega arith)
 within-wider h refused-within = refused-within
 
 -- ---- a value that opens nothing
 
 module _ {end : ℕ} (id k : ℕ) where
-  rowed-within : (c : Cursor) (r : Row) → c .pos ≤ end → Within end (rowed k c r)
+  rowed-within : (c : Cursor) (r : Row) → c .pos ≤ end → r .place ≤ end → Within end (rowed k c r)
   unfolding rowed
-  rowed-within c r l = within-room k (read-within l)
+  rowed-within c r l p = within-room k (read-within l (row-within p no-row))
+
+  -- what ends there begins there
+  begins : (size p : ℕ) → p ≤ end → placeBefore size p ≤ end
+  unfolding placeBefore
+  begins size p l = omega arith
 
   boolean-within : {b : Boolean} → BooleanIn end b → Within end (onBoolean id k b)
   unfolding onBoolean
-  boolean-within (boolean-in {c = c} l) = rowed-within c _ l
+  boolean-within (boolean-in {c = c} l) = rowed-within c _ l (begins 1 (c .pos) l)
   boolean-within bad-boolean = refused-within
   boolean-within (no-boolean l) = short-within l
 
   float128-within : {n : Number} → NumberIn end n → Within end (onFloat128 id k (halvesOf n))
   unfolding onFloat128 halvesOf
-  float128-within (number-in {c = c} l) = rowed-within c _ l
+  float128-within (number-in {c = c} l) = rowed-within c _ l (begins 16 (c .pos) l)
   float128-within (no-number l) = short-within l
 
   number-within : (kind : ℕ) {n : Number} → NumberIn end n → Within end (onNumber kind id k n)
   unfolding onNumber
-  number-within kind (number-in {c = c} l) = rowed-within c _ l
+  number-within kind (number-in {c = c} l) = rowed-within c _ l (begins (alignOf kind) (c .pos) l)
   number-within kind (no-number l) = short-within l
 
   text-within : (kind : ℕ) {t : Text} → TextIn end t → Within end (onText kind id k t)
   unfolding onText
-  text-within kind (text-in {c = c} l) = rowed-within c _ l
+  text-within kind (text-in {start = start} {c = c} b l) = rowed-within c _ l (begins 4 start b)
   text-within kind bad-text = refused-within
   text-within kind (no-text l) = short-within l
 
@@ -154,12 +167,12 @@ module _ (s : List ℕ) (set : Settings) where
 
   scalars-within : (kind left i : ℕ) (c : Cursor) (k : ℕ) → c .pos ≤ length s → Within (length s) (elementsFrom s set kind left i c k)
   unfolding elementsFrom
-  scalars-within kind zero i c k l = read-within l
+  scalars-within kind zero i c k l = read-within l no-row
   scalars-within kind (suc left) i c k l = within-then _ (scalar-within kind i c k l) (λ d n h. scalars-within kind left (i + 1) d (k - n) h)
 
   list-within : (kind id count : ℕ) (c : Cursor) (k : ℕ) → c .pos ≤ length s → Within (length s) (listOf s set kind id count c k)
   unfolding listOf
-  list-within kind id count c k l = within-room k (within-prepend _ (scalars-within kind count 0 c (k - 1) l))
+  list-within kind id count c k l = within-room k (within-prepend (row-within l no-row) (scalars-within kind count 0 c (k - 1) l))
 
 -- ---- one level of the rules, given what opening a value comes to
 
@@ -167,7 +180,7 @@ module _ (types : List BookType) (set : Settings) (inside : StaysInside set) (ne
   module _ (s : List ℕ) where
     opened-elements : (ty left i : ℕ) (c : Cursor) (k : ℕ) → c .pos ≤ length s → Within (length s) (openedFrom types s set nest ty left i c k)
     unfolding openedFrom
-    opened-elements ty zero i c k l = read-within l
+    opened-elements ty zero i c k l = read-within l no-row
     opened-elements ty (suc left) i c k l = within-then _ (below s ty i c k l) (λ d n h. opened-elements ty left (i + 1) d (k - n) h)
 
     elements-within : (ty id count : ℕ) (c : Cursor) (k : ℕ) → c .pos ≤ length s → Within (length s) (elementsOf types s set nest ty id count c k)
@@ -176,7 +189,7 @@ module _ (types : List BookType) (set : Settings) (inside : StaysInside set) (ne
         let F : Outcome → Type 0 = Within (length s) in
         let t = typeNo types ty in
         by-test F (unsupportedElement (t .kind)) (λ e. refused-within) (λ u.
-        by-test F (opens (t .kind)) (λ o. within-room k (within-prepend _ (opened-elements ty count 0 c (k - 1) l))) (λ o.
+        by-test F (opens (t .kind)) (λ o. within-room k (within-prepend (row-within l no-row) (opened-elements ty count 0 c (k - 1) l))) (λ o.
         by-test F (isPrimitive (t .kind)) (λ p.
         by-test F (among (2 ∷ 13 ∷ []) (t .kind)) (λ e. within-block (seek-in s c count l) (list-within s set (t .kind) id count c k l)) (λ e. list-within s set (t .kind) id count c k l))
         (λ p. list-within s set (readAs t) id count c k l)))
@@ -192,8 +205,8 @@ module _ (types : List BookType) (set : Settings) (inside : StaysInside set) (ne
 
     list-end : (b : Bool) (end : ℕ) (c : Cursor) → c .pos ≤ length s → Within (length s) (listEndIf b end c)
     unfolding listEndIf
-    list-end false end c l = read-within l
-    list-end true end c l = by-test (Within (length s)) (eqb (c .pos) end) (λ e. read-within l) (λ e. refused-within)
+    list-end false end c l = read-within l no-row
+    list-end true end c l = by-test (Within (length s)) (eqb (c .pos) end) (λ e. read-within l no-row) (λ e. refused-within)
 
   module _ (s : List ℕ) where
     list-value : (t : BookType) (id : ℕ) (c : Cursor) (k : ℕ) → c .pos ≤ length s → Within (length s) (listValue types s set nest t id c k)
@@ -209,7 +222,7 @@ module _ (types : List BookType) (set : Settings) (inside : StaysInside set) (ne
     value-within ty id c k l =
         let F : Outcome → Type 0 = Within (length s) in
         let t = typeNo types ty in
-        by-test F (eqb (t .kind) 0) (λ e. read-within l) (λ z.
+        by-test F (eqb (t .kind) 0) (λ e. read-within l no-row) (λ z.
         by-test F (unsupportedMember (t .kind)) (λ e. refused-within) (λ u.
         by-test F (opens (t .kind)) (λ o. below s ty id c k l) (λ o.
         by-test F (among (25 ∷ 26 ∷ []) (t .kind)) (λ e. list-value t id c k l) (λ n. scalar-within s set (readAs t) id c k l))))
@@ -230,8 +243,8 @@ module _ (types : List BookType) (set : Settings) (inside : StaysInside set) (ne
 
     located-within : (m : Member) (k : ℕ) {found : Located} → LocatedIn (length s) found → Within (length s) (onLocated types s set nest m k found)
     unfolding onLocated
-    located-within m k (located-in {n} {c} {back} l h) = within-back back h (foundOf types s set nest m n c k)
-    located-within m k (absent-in h) = read-within h
+    located-within m k (located-in {n} {c} {back} l h) = within-back back h (within-wider (cut-shorter set s (c .pos + n)) (found-within m n c k l))
+    located-within m k (absent-in h) = read-within h no-row
     located-within m k (no-lookup h) = short-within h
 
     mmember-within : (m : Member) (c : Cursor) (k : ℕ) → c .pos ≤ length s → Within (length s) (mmemberOf types s set nest m c k)
@@ -241,7 +254,7 @@ module _ (types : List BookType) (set : Settings) (inside : StaysInside set) (ne
     present-within : (m : Member) (k : ℕ) {b : Boolean} → BooleanIn (length s) b → Within (length s) (onPresent types s set nest m k b)
     unfolding onPresent
     present-within m k (boolean-in {b = true} {c = c} l) = value-within s (m .type) (m .id) c k l
-    present-within m k (boolean-in {b = false} {c = c} l) = read-within l
+    present-within m k (boolean-in {b = false} {c = c} l) = read-within l no-row
     present-within m k bad-boolean = refused-within
     present-within m k (no-boolean l) = short-within l
 
@@ -263,12 +276,12 @@ module _ (types : List BookType) (set : Settings) (inside : StaysInside set) (ne
 
     fmembers-within : (t : BookType) (ms : List Member) (c : Cursor) (k : ℕ) → c .pos ≤ length s → Within (length s) (fmembersOf types s set nest t ms c k)
     unfolding fmembersOf
-    fmembers-within t [] c k l = read-within l
+    fmembers-within t [] c k l = read-within l no-row
     fmembers-within t (m ∷ ms) c k l = within-end (absorbs t m) _ (fmember-within m c k l) (λ d n h. fmembers-within t ms d (k - n) h)
 
     mmembers-within : (ms : List Member) (c : Cursor) (k : ℕ) → c .pos ≤ length s → Within (length s) (mmembersOf types s set nest ms c k)
     unfolding mmembersOf
-    mmembers-within [] c k l = read-within l
+    mmembers-within [] c k l = read-within l no-row
     mmembers-within (m ∷ ms) c k l = within-then _ (mmember-within m c k l) (λ d n h. mmembers-within ms d (k - n) h)
 
     -- ---- unions
@@ -296,7 +309,7 @@ module _ (types : List BookType) (set : Settings) (inside : StaysInside set) (ne
 
     chosen-within : (mutable : Bool) (disc : Member) (ms : List Member) (k : ℕ) {o : Outcome} → Within (length s) o → Within (length s) (chosenOf types s set nest mutable disc ms k o)
     unfolding chosenOf
-    chosen-within mutable disc ms k (read-within {c} {rs} l) = within-prepend rs (told-within mutable disc ms c (k - length rs) (discriminatorOf rs) l)
+    chosen-within mutable disc ms k (read-within {c} {rs} l ps) = within-prepend ps (told-within mutable disc ms c (k - length rs) (discriminatorOf rs) l)
     chosen-within mutable disc ms k (short-within l) = short-within l
     chosen-within mutable disc ms k refused-within = refused-within
 
@@ -316,13 +329,13 @@ module _ (types : List BookType) (set : Settings) (inside : StaysInside set) (ne
     -- what ends it goes no further than the end that it is told
     ending-by : (v : Version) (end : ℕ) (c : Cursor) → end ≤ length s → c .pos ≤ length s → Within (length s) (endingBy s set v end c)
     unfolding endingBy
-    ending-by Xcdr1 end c h l = after-move (Within (length s)) (length s) short (λ x k. short-within k) (sentinel-in s set c l) _ (λ d k. read-within k)
-    ending-by Xcdr2 end c h l = read-within h
+    ending-by Xcdr1 end c h l = after-move (Within (length s)) (length s) short (λ x k. short-within k) (sentinel-in s set c l) _ (λ d k. read-within k no-row)
+    ending-by Xcdr2 end c h l = read-within h no-row
 
     ending-within : (f : Bool) (end : ℕ) (c : Cursor) → end ≤ length s → c .pos ≤ length s → Within (length s) (endingIf s set f end c)
     unfolding endingIf
     ending-within true end c h l = ending-by (set .version) end c h l
-    ending-within false end c h l = read-within l
+    ending-within false end c h l = read-within l no-row
 
     contents-within : (t : BookType) (end : ℕ) (c : Cursor) (k : ℕ) → end ≤ length s → c .pos ≤ length s → Within (length s) (contentsOf types s set nest t end c k)
     unfolding contentsOf membersOf endingOf
@@ -350,7 +363,7 @@ module _ (types : List BookType) (set : Settings) (inside : StaysInside set) (ne
     opened-within : (b : Bool) (ty id : ℕ) (c : Cursor) (k : ℕ) → c .pos ≤ length s → Within (length s) (openedIf types s set nest b ty id c k)
     unfolding openedIf bodyOf
     opened-within false ty id c k l = refused-within
-    opened-within true ty id c k l = within-room k (within-closed _ _ _ (body-by (eqb (typeNo types ty .kind) 21) (typeNo types ty) c (k - 1) l))
+    opened-within true ty id c k l = within-room k (within-closed _ _ _ _ l (body-by (eqb (typeNo types ty .kind) 21) (typeNo types ty) c (k - 1) l))
 
 too-deep : {end : ℕ} (b : Bool) → Within end (tooDeepIf b)
 unfolding tooDeepIf
@@ -364,7 +377,7 @@ nested-within types set inside zero s ty id c k l = too-deep (opens (typeNo type
 nested-within types set inside (suc depth) s ty id c k l =
     opened-within types set inside (nestedAt types set depth) (nested-within types set inside depth) s (opens (typeNo types ty .kind)) ty id c k l
 
--- A FOUND MEMBER, whose place is not told because the reading comes back: its value begins inside the data up to the member's own end, and stays there
+-- A FOUND MEMBER, where the reading does not stay: its value begins inside the data up to the member's own end, and stays there
 pub member-within : (types : List BookType) (set : Settings) → StaysInside set → (depth : ℕ) (s : List ℕ) (m : Member) (d : Cursor) (n : ℕ) (c back : Cursor) (k : ℕ) → d .pos ≤ length s → locate s set (m .id) d ≡ located.Found n c back
     → (c .pos ≤ length (cutAt set s (c .pos + n))) × Within (length (cutAt set s (c .pos + n))) (foundOf types s set (nestedAt types set depth) m n c k)
 member-within types set inside depth s m d n c back k l e =
@@ -386,3 +399,13 @@ xcdr1-inside set e v = absurd (let z : _≡_ {A = ℕ} 0 1 = cc in omega arith)
 
 pub standard-within : (types : List BookType) (s : List ℕ) (set : Settings) → set .mode ≡ Standard → (root room : ℕ) → Within (length s) (reading types s set root room)
 standard-within types s set m root room = reading-within types s set (standard-inside set m) root room
+
+-- ORDER 7, IN THE STANDARD'S MODE: "each place of a finished reading is at most the data's length", without exception
+places : {end : ℕ} {o : Outcome} {c : Cursor} {rs : List Row} → Within end o → o ≡ read c rs → PlacesWithin end rs
+places {rs = rs} (read-within {rs = qs} l ps) e = let z : qs ≡ rs = cc in rw z at ps
+places (short-within l) e = absurd (let z : _≡_ {A = ℕ} 0 1 = cc in omega arith)
+places refused-within e = absurd (let z : _≡_ {A = ℕ} 0 1 = cc in omega arith)
+
+pub standard-places : (types : List BookType) (s : List ℕ) (set : Settings) → set .mode ≡ Standard → (root room : ℕ) (c : Cursor) (rs : List Row)
+    → reading types s set root room ≡ read c rs → PlacesWithin (length s) rs
+standard-places types s set m root room c rs e = places (standard-within types s set m root room) e

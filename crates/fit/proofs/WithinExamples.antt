@@ -34,12 +34,12 @@ data4 = 100 ∷ 0 ∷ 0 ∷ 0 ∷ []
 abbrev read4 : Mode → Outcome
 read4 mode = reading types data4 (settings mode LittleEndian Xcdr2) 0 1
 
-by-modes : (read4 Crate ≡ read (cursorAt 104 0) (row 22 0 0 0 ∷ [])) × (read4 Standard ≡ refused InvalidData)
+by-modes : (read4 Crate ≡ read (cursorAt 104 0) (row 22 0 0 0 0 ∷ [])) × (read4 Standard ≡ refused InvalidData)
 unfolding reading nestedAt openedIf bodyOf bodyBy delimitedOf contentsOf membersOf membersIf mmembersOf endingOf hasEnding endingIf endingBy beginningOf mayFailUnheard unheardIf isMutable isStructure isDelimited roomFor closed prepend andThen afterContents contentsAt delimitedBy dheaderAt upTo keepsEndsBy cutAt readNumber afterNumber onAligned numberHere onBytes numberAt alignTo seekTo paddingOf alignmentOf opens typeNo
 by-modes = (refl, refl)
 
 too-far : {rs : List Row} → Within 4 (read (cursorAt 104 0) rs) → ⊥
-too-far (read-within l) = omega arith
+too-far (read-within l ps) = omega arith
 
 -- so the law does not hold there
 pub crate-passes : Within (length data4) (read4 Crate) → ⊥

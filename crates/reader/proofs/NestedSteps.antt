@@ -216,35 +216,35 @@ module _ {b index : List ℕ} {ty p k : ℕ} {o : Bool} (at : PlaceOf b index ty
     pub nested-deep : D ≡ 0 → Done nested n t t (Refused TooDeep)
     nested-deep e = is-refused (deep-at D e) (filled-none t n)
 
-    opened-at : (d : ℕ) → nestedAt types set (suc d) s ty id c (room t n) ≡ roomFor (room t n) (closed (typeNo types ty .kind) id ty (bodyOf types s set (nestedAt types set d) (typeNo types ty) c (room t n - 1)))
+    opened-at : (d : ℕ) → nestedAt types set (suc d) s ty id c (room t n) ≡ roomFor (room t n) (closed (typeNo types ty .kind) id ty (c .pos) (bodyOf types s set (nestedAt types set d) (typeNo types ty) c (room t n - 1)))
     unfolding nestedAt openedIf
     opened-at d = ap (λ (x : Bool). openedIf types s set (nestedAt types set d) x ty id c (room t n)) (opens-is ∙ opened)
 
-    is-opened : (D ≡ 0 → ⊥) → nested ≡ roomFor (room t n) (closed k id ty (bodyOf types s set (nestedAt types set (D - 1)) (typeAt b p) c (room t n - 1)))
+    is-opened : (D ≡ 0 → ⊥) → nested ≡ roomFor (room t n) (closed k id ty (c .pos) (bodyOf types s set (nestedAt types set (D - 1)) (typeAt b p) c (room t n - 1)))
     is-opened h =
         let e : D ≡ suc (D - 1) = omega arith in
         ap (λ (x : ℕ). nestedAt types set x s ty id c (room t n)) e ∙ opened-at (D - 1)
-        ∙ ap (λ (x : ℕ). roomFor (room t n) (closed x id ty (bodyOf types s set (nestedAt types set (D - 1)) (typeNo types ty) c (room t n - 1)))) kind-no
-        ∙ ap (λ (x : BookType). roomFor (room t n) (closed k id ty (bodyOf types s set (nestedAt types set (D - 1)) x c (room t n - 1)))) (sym (at .is))
+        ∙ ap (λ (x : ℕ). roomFor (room t n) (closed x id ty (c .pos) (bodyOf types s set (nestedAt types set (D - 1)) (typeNo types ty) c (room t n - 1)))) kind-no
+        ∙ ap (λ (x : BookType). roomFor (room t n) (closed k id ty (c .pos) (bodyOf types s set (nestedAt types set (D - 1)) x c (room t n - 1)))) (sym (at .is))
 
     module _ (deep : D ≡ 0 → ⊥) (f : Bool) (full : f ≡ noRoom t n) where
       abbrev beneath : ℕ → Outcome
       beneath x = bodyOf types s set (nestedAt types set (D - 1)) (typeAt b p) c x
 
       pub nested-full : f ≡ true → Done nested n t t (Refused NoRoom)
-      nested-full = row-full k id ty beneath t n f full (is-opened deep)
+      nested-full = row-full k id ty (c .pos) beneath t n f full (is-opened deep)
 
       module _ (fits : f ≡ false) {d : Cursor} (made : d ≡ c) {u : List ℕ} {r : Out} (given : Done (bodyOf types s set (nestedAt types set (D - 1)) (typeAt b p) d (room t (n + 1))) (n + 1) t u r) where
         h : Done (beneath (room t (n + 1))) (n + 1) t u r
         h = rw made at given
 
-        pub nested-read : (e : Cursor) (m : ℕ) (v : List ℕ) → r ≡ Read e m → {x : ℕ} → x ≡ storedOf k → v ≡ putRow u n (row x id ty (m - n - 1)) → Done nested n t v (Read e m)
+        pub nested-read : (e : Cursor) (m : ℕ) (v : List ℕ) → r ≡ Read e m → {x : ℕ} → x ≡ storedOf k → v ≡ putRow u n (row x id ty (m - n - 1) (c .pos)) → Done nested n t v (Read e m)
         nested-read e m v q l p =
-            let z : v ≡ putRow u n (row k id ty (m - n - 1)) = p ∙ ap (λ (y : ℕ). putRow u n (row y id ty (m - n - 1))) (l ∙ opened-stored k (sym is ∙ opened)) in
-            row-read k id ty beneath t n f full (is-opened deep) fits u r h e m v q z
+            let z : v ≡ putRow u n (row k id ty (m - n - 1) (c .pos)) = p ∙ ap (λ (y : ℕ). putRow u n (row y id ty (m - n - 1) (c .pos))) (l ∙ opened-stored k (sym is ∙ opened)) in
+            row-read k id ty (c .pos) beneath t n f full (is-opened deep) fits u r h e m v q z
 
         pub nested-short : (x : Shortage) → r ≡ Short x → Done nested n t u (Short x)
-        nested-short = row-short k id ty beneath t n f full (is-opened deep) fits u r h
+        nested-short = row-short k id ty (c .pos) beneath t n f full (is-opened deep) fits u r h
 
         pub nested-refused : (x : Refusal) → r ≡ Refused x → Done nested n t u (Refused x)
-        nested-refused = row-refused k id ty beneath t n f full (is-opened deep) fits u r h
+        nested-refused = row-refused k id ty (c .pos) beneath t n f full (is-opened deep) fits u r h

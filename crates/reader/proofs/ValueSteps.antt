@@ -76,19 +76,19 @@ module _ (b index s : List ℕ) (set : Settings) (nest : Nest) (ty id : ℕ) (c 
     elements-unsupported x e f = is-refused (rw (tested unsupportedElement x true e f)) (filled-none t n)
 
     module _ (x : Bool) (e : x ≡ unsupportedElement k) (f : x ≡ false) (y : Bool) (g : y ≡ opens k) where
-      opened-list : y ≡ true → elements ≡ roomFor (room t n) (prepend (row 25 id k count ∷ []) (openedFrom (typesBy b index) s set nest ty count 0 c (room t n - 1)))
+      opened-list : y ≡ true → elements ≡ roomFor (room t n) (prepend (row 25 id k count (c .pos) ∷ []) (openedFrom (typesBy b index) s set nest ty count 0 c (room t n - 1)))
       unfolding elementsOf openedList
       opened-list h = rw (kind-no, ← e, f, ← g, h)
 
       pub elements-full : y ≡ true → (z : Bool) → z ≡ noRoom t n → z ≡ true → Done elements n t t (Refused NoRoom)
       elements-full h z i j = is-refused (opened-list h ∙ no-room t n _ z i j) (filled-none t n)
 
-      pub elements-opened : y ≡ true → (z : Bool) → z ≡ noRoom t n → z ≡ false → (i₁ i₂ : ℕ) → i₁ ≡ storedOf 25 → i₂ ≡ storedOf k → (u : List ℕ) → u ≡ putRow t n (row i₁ id i₂ count) → (v : List ℕ) (r : Out)
+      pub elements-opened : y ≡ true → (z : Bool) → z ≡ noRoom t n → z ≡ false → (i₁ i₂ : ℕ) → i₁ ≡ storedOf 25 → i₂ ≡ storedOf k → (u : List ℕ) → u ≡ putRow t n (row i₁ id i₂ count (c .pos)) → (v : List ℕ) (r : Out)
           → Done (runOf nest s ty 0 count 0 c (room u (n + 1))) (n + 1) u v r → Done elements n t v r
       elements-opened h z i j i₁ i₂ l m u q v r d =
-          let w : Filled t u n (row 25 id k count ∷ []) = rw (q, l ∙ sequence-stored, m ∙ opened-stored k (sym g ∙ h)) (filled-one t n (row 25 id k count) (full-fits t n z i j)) in
-          is-same (opened-list h ∙ some-room t n _ z i j ∙ ap (λ (m : ℕ). prepend (row 25 id k count ∷ []) (openedFrom (typesBy b index) s set nest ty count 0 c m)) (room-used t u n 1 (w .long))
-          ∙ ap (prepend (row 25 id k count ∷ [])) (sym (run-list (typesBy b index) s set nest ty count 0 c (room u (n + 1))))) (is-after w d)
+          let w : Filled t u n (row 25 id k count (c .pos) ∷ []) = rw (q, l ∙ sequence-stored, m ∙ opened-stored k (sym g ∙ h)) (filled-one t n (row 25 id k count (c .pos)) (full-fits t n z i j)) in
+          is-same (opened-list h ∙ some-room t n _ z i j ∙ ap (λ (m : ℕ). prepend (row 25 id k count (c .pos) ∷ []) (openedFrom (typesBy b index) s set nest ty count 0 c m)) (room-used t u n 1 (w .long))
+          ∙ ap (prepend (row 25 id k count (c .pos) ∷ [])) (sym (run-list (typesBy b index) s set nest ty count 0 c (room u (n + 1))))) (is-after w d)
 
       module _ (h : y ≡ false) (z : Bool) (i : z ≡ isPrimitive k) where
         pub elements-primitives : z ≡ true → (u : List ℕ) (r : Out) → Done (primitivesOf s set k id count c (room t n)) n t u r → Done elements n t u r

@@ -105,10 +105,10 @@ module _ (types : List BookType) (s : List ℕ) (set : Settings) (nest : Nest) w
   unfoldable pub bodyOf : BookType → Cursor → ℕ → Outcome
   bodyOf t c room = bodyBy (eqb (t .kind) 21) t c room
 
-  -- "Opening a value asks in order: kind 21 to 23 (else 3), .., room (13)."
+  -- "Opening a value asks in order: kind 21 to 23 (else 3), .., room (13)." Order 7: "the position at opening", before any DHEADER
   unfoldable pub openedIf : Bool → ℕ → ℕ → Cursor → ℕ → Outcome
   openedIf false ty id c room = refused InvalidType
-  openedIf true ty id c room = roomFor room (closed (typeNo types ty .kind) id ty (bodyOf (typeNo types ty) c (room - 1)))
+  openedIf true ty id c room = roomFor room (closed (typeNo types ty .kind) id ty (c .pos) (bodyOf (typeNo types ty) c (room - 1)))
 
 -- 12, "TooDeep: a structure, enum or union would open at depth 17 (root is 1)", asked after the kind and before the room
 unfoldable pub tooDeepIf : Bool → Outcome

@@ -39,10 +39,11 @@ module _ (types : List BookType) (s : List ℕ) (set : Settings) (nest : Nest) w
   openedFrom ty zero i c room = read c []
   openedFrom ty (suc left) i c room = andThen (nest s ty i c room) (λ d used. openedFrom ty left (i + 1) d (room - used))
 
-  -- "Sequences and arrays: kind 25, a element's stored kind (a structure, enum or union its own kind), b elements"
+  -- "Sequences and arrays: kind 25, a element's stored kind (a structure, enum or union its own kind), b elements". Order 7: "for a sequence the position after
+  -- its length; for an array that after any DHEADER"
   unfoldable pub openedList : ℕ → ℕ → ℕ → Cursor → ℕ → Outcome
   openedList ty id count c room =
-      roomFor room (prepend (row 25 id (typeNo types ty .kind) count ∷ []) (openedFrom ty count 0 c (room - 1)))
+      roomFor room (prepend (row 25 id (typeNo types ty .kind) count (c .pos) ∷ []) (openedFrom ty count 0 c (room - 1)))
 
   -- the elements of a list, by their type.
   -- "11: .. element kinds 0, 15, 18, 20, 24 to 27, even for 0 elements, after any DHEADER and length and before the list's row"

@@ -119,6 +119,7 @@ pub fn as_nested(
                     id: number,
                     a: ty as u64,
                     b: beneath as u64,
+                    place: pos as u64,
                 };
                 put_row(t, m, row);
                 pos = e.pos;

@@ -130,6 +130,7 @@ pub fn elements(
             id,
             a: stored_of(kind) as u64,
             b: count,
+            place: c.pos as u64,
         };
         put_row(t, n, row);
         return as_nested(book, index, s, set, t, ty, 0, count, c, n + 1, depth);

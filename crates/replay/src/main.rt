@@ -16,7 +16,7 @@ use wire::settings::Mode;
 const LONGEST: usize = 131082;
 
 // 2,048 rows: the largest table of an entry.
-const WORDS: usize = 8192;
+const WORDS: usize = 10240;
 
 // The most entries of a list.
 const ENTRIES: usize = 100000;

@@ -7,7 +7,7 @@ use libc::STDOUT_FILENO;
 // A book and a message of 65,536 bytes, the six bytes between them, and one more, by which an input that is too long is known.
 const LONGEST: usize = 131079;
 
-// 2,048 rows.
+// 1,638 rows.
 const WORDS: usize = 8192;
 
 fn say(s: &[u8]) {

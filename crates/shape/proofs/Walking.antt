@@ -13,7 +13,7 @@ use Rattle.kinds.specs.Kinds.{opens, storedOf}
 use Rattle.book.specs.Types.{BookType, Member, typeNo}
 use Rattle.table.specs.declared.rows.Row.{Row}
 use Rattle.shape.specs.Shape as shape
-use Rattle.shape.specs.Shape.{OneOf, Value, Single, Opened, Elements, Beneath, Members, Held, storedKind, isScalar}
+use Rattle.shape.specs.Shape.{OneOf, InData, Value, Single, Opened, Elements, Beneath, Members, Held, storedKind, isScalar}
 use Rattle.shape.specs.Walk.{extent, extents, span, direct, InOrder, none-left, without, with, Visits, all-visited, passes-by, visits}
 use Rattle.shape.proofs.KindTests.{scalar-stored, own-stored}
 
@@ -30,7 +30,7 @@ opened-row t n e o l m q = record { opens = rw e o; noList = rw e l; own = e ∙
 
 beneath-row : {types : List BookType} {s : List ℕ} {t : BookType} {rs : List Row} → Beneath types s t rs → OpenedRow t
 unfolding opens storedOf
-beneath-row {t = t} (shape.enum a b e f g) = opened-row t 21 e refl refl refl refl
+beneath-row {t = t} (shape.enum a b p e f g l) = opened-row t 21 e refl refl refl refl
 beneath-row {t = t} (shape.structure e x) = opened-row t 22 e refl refl refl refl
 beneath-row {t = t} (shape.union v e q h d g o x) = opened-row t 23 e refl refl refl refl
 
@@ -46,14 +46,14 @@ pub record One (id kind : ℕ) (rs : List Row) : Type 0 where
 
 single-one : {types : List BookType} {s : List ℕ} {ty id : ℕ} {rs : List Row} → Single types s ty id rs → One id (storedKind (typeNo types ty)) rs
 unfolding extent storedOf opens
-single-one {types} {ty = ty} (shape.scalar a b n g) =
+single-one {types} {ty = ty} (shape.scalar a b p n g l) =
     let k = scalar-stored (typeNo types ty) n in
     record { head = _; others = []; is = refl; named = refl; stored = refl; long = rw (k .0); noList = k .1 }
-single-one {types} {ty = ty} (shape.text8 start n e i) =
+single-one {types} {ty = ty} (shape.text8 start n p e i l) =
     record { head = _; others = []; is = refl; named = refl; stored = sym (own-stored (typeNo types ty) 16 e refl); long = refl; noList = refl }
-single-one {types} {ty = ty} (shape.text16 start n e i) =
+single-one {types} {ty = ty} (shape.text16 start n p e i l) =
     record { head = _; others = []; is = refl; named = refl; stored = sym (own-stored (typeNo types ty) 17 e refl); long = refl; noList = refl }
-single-one {types} {ty = ty} (shape.nested (shape.opened {rs = rs} b)) =
+single-one {types} {ty = ty} (shape.nested (shape.opened {rs = rs} p b)) =
     let k = beneath-row b in
     record { head = _; others = rs; is = refl; named = refl; stored = k .own; long = rw (k .opens); noList = k .noList }
 
@@ -70,14 +70,26 @@ module _ {types : List BookType} {s : List ℕ} {ty id : ℕ} where
   -- an array has exactly its stated size
   pub array-size : {r : Row} {rs : List Row} → Value types s ty id (r ∷ rs) → typeNo types ty .kind ≡ 26 → (r .b ≡ typeNo types ty .bound) × Elements types s (typeNo types ty .element) (typeNo types ty .bound) 0 rs
   unfolding isScalar
-  array-size (shape.one (shape.scalar a b n g)) e = absurd (apart (rw e at n))
-  array-size (shape.one (shape.text8 start n z i)) e = absurd (omega arith)
-  array-size (shape.one (shape.text16 start n z i)) e = absurd (omega arith)
-  array-size (shape.one (shape.nested (shape.opened (shape.enum a b z f g)))) e = absurd (omega arith)
-  array-size (shape.one (shape.nested (shape.opened (shape.structure z x)))) e = absurd (omega arith)
-  array-size (shape.one (shape.nested (shape.opened (shape.union v z q h d g o x)))) e = absurd (omega arith)
-  array-size (shape.sequence n z x) e = absurd (omega arith)
-  array-size (shape.array z x) e = (refl, x)
+  array-size (shape.one (shape.scalar a b p n g l)) e = absurd (apart (rw e at n))
+  array-size (shape.one (shape.text8 start n p z i l)) e = absurd (omega arith)
+  array-size (shape.one (shape.text16 start n p z i l)) e = absurd (omega arith)
+  array-size (shape.one (shape.nested (shape.opened place (shape.enum a b p z f g l)))) e = absurd (omega arith)
+  array-size (shape.one (shape.nested (shape.opened place (shape.structure z x)))) e = absurd (omega arith)
+  array-size (shape.one (shape.nested (shape.opened place (shape.union v z q h d g o x)))) e = absurd (omega arith)
+  array-size (shape.sequence n p z l x) e = absurd (omega arith)
+  array-size (shape.array p z x) e = (refl, x)
+
+  -- a sequence's place is in the data
+  pub sequence-place : {r : Row} {rs : List Row} → Value types s ty id (r ∷ rs) → typeNo types ty .kind ≡ 25 → InData s (r .place)
+  unfolding isScalar
+  sequence-place (shape.one (shape.scalar a b p n g l)) e = absurd (apart (rw e at n))
+  sequence-place (shape.one (shape.text8 start n p z i l)) e = absurd (omega arith)
+  sequence-place (shape.one (shape.text16 start n p z i l)) e = absurd (omega arith)
+  sequence-place (shape.one (shape.nested (shape.opened place (shape.enum a b p z f g l)))) e = absurd (omega arith)
+  sequence-place (shape.one (shape.nested (shape.opened place (shape.structure z x)))) e = absurd (omega arith)
+  sequence-place (shape.one (shape.nested (shape.opened place (shape.union v z q h d g o x)))) e = absurd (omega arith)
+  sequence-place (shape.sequence n p z l x) e = l
+  sequence-place (shape.array p z x) e = absurd (omega arith)
 
 -- a value: its first row has its id, its stored kind and an array's size, and whatever rows come after it, its end is found
 pub record Whole (types : List BookType) (ty id : ℕ) (rs : List Row) : Type 0 where
@@ -101,9 +113,9 @@ value-whole {types} {s} {ty} {id} (shape.one x) =
     let o = single-one x in
     let v : Value types s ty id (o .head ∷ o .others) = rw (o .is) at (shape.one x) in
     record { head = o .head; others = o .others; is = o .is; named = o .named; stored = o .stored; size = λ e. array-size v e .0; ends = λ more. one-ends o more }
-value-whole {types} {ty = ty} (shape.sequence n e x) =
+value-whole {types} {ty = ty} (shape.sequence n p e l x) =
     record { head = _; others = _; is = refl; named = refl; stored = sym (own-stored (typeNo types ty) 25 e refl); size = λ z. absurd (omega arith); ends = λ more. ap suc (elements-end x more) }
-value-whole {types} {ty = ty} (shape.array e x) =
+value-whole {types} {ty = ty} (shape.array p e x) =
     record { head = _; others = _; is = refl; named = refl; stored = sym (own-stored (typeNo types ty) 26 e refl); size = λ z. refl; ends = λ more. ap suc (elements-end x more) }
 
 -- ---- in the type's order and at most once
@@ -162,7 +174,7 @@ one-held types s (x ∷ xs) m rs (List·Memᴰ·head e) h = rw append-nil at (sh
 one-held types s (x ∷ xs) m rs (List·Memᴰ·tail o) h = shape.member shape.absent (one-held types s xs m rs o h)
 
 beneath-members : {types : List BookType} {s : List ℕ} {t : BookType} {rs : List Row} → Beneath types s t rs → (t .kind ≡ 21 → ⊥) → Members types s (t .members) rs
-beneath-members (shape.enum a b e f g) n = absurd (n e)
+beneath-members (shape.enum a b p e f g l) n = absurd (n e)
 beneath-members (shape.structure e x) n = x
 beneath-members {types} {s} (shape.union {m = m} {others = others} {rs = rs} v e q h d g o x) n = rw q (shape.member h (one-held types s others m rs o x))
 
@@ -170,15 +182,15 @@ beneath-members {types} {s} (shape.union {m = m} {others = others} {rs = rs} v e
 module _ {types : List BookType} {s : List ℕ} {ty id : ℕ} where
   -- b of an opened row is the number of rows beneath it
   pub rows-beneath : {r : Row} {rs : List Row} → Opened types s ty id (r ∷ rs) → r .b ≡ length rs
-  rows-beneath (shape.opened x) = refl
+  rows-beneath (shape.opened p x) = refl
 
   -- the rows directly under a structure or union each belong to a member of its type, in the type's order and at most once
   pub rows-in-order : {r : Row} {rs : List Row} → Opened types s ty id (r ∷ rs) → (typeNo types ty .kind ≡ 21 → ⊥) → (n : ℕ) → InOrder types (typeNo types ty .members) (direct n rs)
-  rows-in-order (shape.opened x) e n = members-order (beneath-members x e) n
+  rows-in-order (shape.opened p x) e n = members-order (beneath-members x e) n
 
   -- with as many steps as there are rows beneath it, or more, the walk visits the first row of every member's value, and leaves nothing over
   pub rows-visited : {r : Row} {rs : List Row} → Opened types s ty id (r ∷ rs) → (typeNo types ty .kind ≡ 21 → ⊥) → (n : ℕ) → r .b ≤ n → Visits types s (typeNo types ty .members) rs (direct n rs)
-  rows-visited (shape.opened x) e n h = members-visited (beneath-members x e) n h
+  rows-visited (shape.opened p x) e n h = members-visited (beneath-members x e) n h
 
   -- the table can be walked: whatever rows come after a value, its end is found from its own
   pub value-ends : {rs : List Row} → Value types s ty id rs → (more : List Row) → span (rs ++ more) ≡ length rs

@@ -34,27 +34,33 @@ isScalar t = among (1 ∷ 2 ∷ 3 ∷ 4 ∷ 5 ∷ 6 ∷ 7 ∷ 8 ∷ 9 ∷ 10 ∷
 abbrev pub Inside : List ℕ → ℕ → ℕ → ℕ → Type 0
 Inside s start units size = start + units * size ≤ length s
 
+-- order 7: "each place of a finished reading is at most the data's length". In the shape a place that need not be is one "for a structure, enum, union or array
+-- opened past the end, which tells the position as it is"
+abbrev pub InData : List ℕ → ℕ → Type 0
+InData s place = place ≤ length s
+
 mutual
   -- the rows of a value of a type, with an id: one value, or a list of them.
   -- "Sequences and arrays: kind 25, a element's stored kind .., b elements; each element's id is its position."
   pub data Value (types : List BookType) (s : List ℕ) : ℕ → ℕ → List Row → Type 0 where
     one : {ty id : ℕ} {rs : List Row} → Single types s ty id rs → Value types s ty id rs
     -- a sequence has any number of elements
-    sequence : {ty id : ℕ} {rs : List Row} (n : ℕ) → typeNo types ty .kind ≡ 25
+    sequence : {ty id : ℕ} {rs : List Row} (n place : ℕ) → typeNo types ty .kind ≡ 25 → InData s place
         → Elements types s (typeNo types ty .element) n 0 rs
-        → Value types s ty id (row 25 id (storedKind (typeNo types (typeNo types ty .element))) n ∷ rs)
+        → Value types s ty id (row 25 id (storedKind (typeNo types (typeNo types ty .element))) n place ∷ rs)
     -- an array has exactly its stated size
-    array : {ty id : ℕ} {rs : List Row} → typeNo types ty .kind ≡ 26
+    array : {ty id : ℕ} {rs : List Row} (place : ℕ) → typeNo types ty .kind ≡ 26
         → Elements types s (typeNo types ty .element) (typeNo types ty .bound) 0 rs
-        → Value types s ty id (row 25 id (storedKind (typeNo types (typeNo types ty .element))) (typeNo types ty .bound) ∷ rs)
+        → Value types s ty id (row 25 id (storedKind (typeNo types (typeNo types ty .element))) (typeNo types ty .bound) place ∷ rs)
 
   -- a value that is no list: a scalar, a text, or a structure, enum or union
   pub data Single (types : List BookType) (s : List ℕ) : ℕ → ℕ → List Row → Type 0 where
     -- "Scalars put the value in a", in the range of the kind that its row has; FLOAT128 its high half in b, which is 0 for any other
-    scalar : {ty id : ℕ} (a b : ℕ) → isScalar (typeNo types ty) ≡ true → inRange (storedKind (typeNo types ty)) a b ≡ true → Single types s ty id (row (storedKind (typeNo types ty)) id a b ∷ [])
+    scalar : {ty id : ℕ} (a b place : ℕ) → isScalar (typeNo types ty) ≡ true → inRange (storedKind (typeNo types ty)) a b ≡ true → InData s place
+        → Single types s ty id (row (storedKind (typeNo types ty)) id a b place ∷ [])
     -- "Text 16: a start in the data, b bytes; 17: b 16-bit units."
-    text8 : {ty id : ℕ} (start n : ℕ) → typeNo types ty .kind ≡ 16 → Inside s start n 1 → Single types s ty id (row 16 id start n ∷ [])
-    text16 : {ty id : ℕ} (start n : ℕ) → typeNo types ty .kind ≡ 17 → Inside s start n 2 → Single types s ty id (row 17 id start n ∷ [])
+    text8 : {ty id : ℕ} (start n place : ℕ) → typeNo types ty .kind ≡ 16 → Inside s start n 1 → InData s place → Single types s ty id (row 16 id start n place ∷ [])
+    text16 : {ty id : ℕ} (start n place : ℕ) → typeNo types ty .kind ≡ 17 → Inside s start n 2 → InData s place → Single types s ty id (row 17 id start n place ∷ [])
     nested : {ty id : ℕ} {rs : List Row} → Opened types s ty id rs → Single types s ty id rs
 
   -- so many elements of a type, one after the other; the first has the position i for its id, the next i + 1
@@ -64,12 +70,13 @@ mutual
 
   -- "Kinds 21 to 23: a type index, b all rows beneath, at any depth."
   pub data Opened (types : List BookType) (s : List ℕ) : ℕ → ℕ → List Row → Type 0 where
-    opened : {ty id : ℕ} {rs : List Row} → Beneath types s (typeNo types ty) rs → Opened types s ty id (row (typeNo types ty .kind) id ty (length rs) ∷ rs)
+    opened : {ty id : ℕ} {rs : List Row} (place : ℕ) → Beneath types s (typeNo types ty) rs → Opened types s ty id (row (typeNo types ty .kind) id ty (length rs) place ∷ rs)
 
   -- what stands beneath the row of an enum, a structure, a union
   pub data Beneath (types : List BookType) (s : List ℕ) : BookType → List Row → Type 0 where
     -- an enum's value has the kind of its base, INT16, INT32 or INT8, and id 0; it is any number in the base's range
-    enum : {t : BookType} (a b : ℕ) → t .kind ≡ 21 → among (3 ∷ 4 ∷ 12 ∷ []) (t .base) ≡ true → inRange (t .base) a b ≡ true → Beneath types s t (row (t .base) 0 a b ∷ [])
+    enum : {t : BookType} (a b place : ℕ) → t .kind ≡ 21 → among (3 ∷ 4 ∷ 12 ∷ []) (t .base) ≡ true → inRange (t .base) a b ≡ true → InData s place
+        → Beneath types s t (row (t .base) 0 a b place ∷ [])
     structure : {t : BookType} {rs : List Row} → t .kind ≡ 22 → Members types s (t .members) rs → Beneath types s t rs
     -- the discriminator, and the one other member that its value selects
     union : {t : BookType} {disc m : Member} {others : List Member} {ds rs : List Row} (value : ℤ) → t .kind ≡ 23 → t .members ≡ disc ∷ others

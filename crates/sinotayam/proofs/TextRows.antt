@@ -24,7 +24,7 @@ use Rattle.sinotayam.specs.Demand3.{SafeCall}
 use Rattle.sinotayam.specs.Text.{textBytes, spanOf, spanNumber, textNumber}
 
 -- the rows of a finished reading are read back from the table that it leaves
-row-in : {t : List ℕ} (n : ℕ) (rs : List Row) (i : ℕ) → Filled t t n rs → i < length rs → rowAt t (n + i) ≡ getD rs i (row 0 0 0 0)
+row-in : {t : List ℕ} (n : ℕ) (rs : List Row) (i : ℕ) → Filled t t n rs → i < length rs → rowAt t (n + i) ≡ getD rs i (row 0 0 0 0 0)
 row-in n [] i f h = absurd (omega arith)
 row-in n (r ∷ rs) zero f h = rw add-zero (filled-first f)
 row-in {t} n (r ∷ rs) (suc i) f h =
@@ -57,7 +57,7 @@ pub row-fits : {types : List BookType} {s : List ℕ} {ty id : ℕ} {rs : List R
     → RowFits types s (rowAt (tableOf before rs) i) (drop (suc i) rs)
 row-fits {rs = rs} o before i h =
     let z : 0 + i ≡ i = omega arith in
-    let e : rowAt (tableOf before rs) i ≡ getD rs i (row 0 0 0 0) = rw z at (row-in 0 rs i (filled-table before rs) h) in
+    let e : rowAt (tableOf before rs) i ≡ getD rs i (row 0 0 0 0 0) = rw z at (row-in 0 rs i (filled-table before rs) h) in
     rw e (each-row o i h)
 
 -- .. and each text row is one to the text call

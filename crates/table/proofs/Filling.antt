@@ -6,22 +6,27 @@ use native.Mathlib.Nat.{mul-add, add-zero}
 use native.Mathlib.Numerals.{towards-suc}
 use native.Mathlib.Omega.{arith}
 use lib.ListN.{length, take, drop, set, getD, length-append, length-take, length-drop}
-use lib.Seq.{take-take, drop-drop, take-add, take-at, drop-at, sets-eq, length-take-le, getD-take, getD-drop}
+use lib.Seq.{take-take, drop-drop, take-add, take-append-add, take-at, drop-at, sets-eq, length-take-le, getD-take, getD-drop}
 use mathlib.Core.Bool.{Bool, true, false}
 use borrow.Author.Tests.{le-leb, lt-leb, leb-true, leb-false}
 use Rattle.table.specs.declared.rows.Row.{Row}
-use Rattle.table.specs.Rows.{row, width, words, capacity, room, noRoom, rowAt}
+use Rattle.table.specs.Rows.{row, width, wordsOf, words, capacity, room, noRoom, rowAt}
 use Rattle.table.specs.Code.Rows.{putRow, Filled}
+
+-- ---- what is asked of a row's form: that each row has so many words. The laws below use no more of it, but for those that write and read single words
+length-wordsOf : (r : Row) → length (wordsOf r) ≡ width
+unfolding wordsOf
+length-wordsOf r = refl
 
 pub length-words : (rs : List Row) → length (words rs) ≡ width * length rs
 unfolding words
 length-words [] = refl
-length-words (r ∷ rs) = omega (arith, length-words rs)
+length-words (r ∷ rs) = rw (length-append, length-wordsOf) (omega (arith, length-words rs))
 
 pub words-append : (rs ss : List Row) → words (rs ++ ss) ≡ words rs ++ words ss
 unfolding words
 words-append [] ss = refl
-words-append (r ∷ rs) ss = ap (λ (l : List ℕ). r .kind ∷ r .id ∷ r .a ∷ r .b ∷ l) (words-append rs ss)
+words-append (r ∷ rs) ss = ap (λ (l : List ℕ). wordsOf r ++ l) (words-append rs ss) ∙ sym (append-assoc (wordsOf r) (words rs) (words ss))
 
 -- what two lists agree on up to n + m they agree on from n for m
 drop-take : {A : Type 0} (n m : ℕ) (l : List A) → take m (drop n l) ≡ drop n (take (n + m) l)
@@ -74,16 +79,18 @@ filled-then {a} {b} {c} {n} {rs} {ss} f g =
     }
 
 pub length-putRow : (t : List ℕ) (n : ℕ) (r : Row) → width * n + width ≤ length t → length (putRow t n r) ≡ length t
-unfolding putRow words
-length-putRow t n r h = simp (length-append, length-take, length-drop) (omega arith)
+unfolding putRow
+length-putRow t n r h = simp (length-append, length-take, length-drop, length-wordsOf) (omega arith)
 
 -- what the stores of a row's words leave
-pub put-row : (t : List ℕ) (n : ℕ) (r : Row) → width * n + width ≤ length t → set (set (set (set t (width * n) (r .kind)) (width * n + 1) (r .id)) (width * n + 2) (r .a)) (width * n + 3) (r .b) ≡ putRow t n r
-unfolding putRow words
+pub put-row : (t : List ℕ) (n : ℕ) (r : Row) → width * n + width ≤ length t
+    → set (set (set (set (set t (width * n) (r .kind)) (width * n + 1) (r .id)) (width * n + 2) (r .a)) (width * n + 3) (r .b)) (width * n + 4) (r .place) ≡ putRow t n r
+unfolding putRow wordsOf
 put-row t n r h =
     simp towards-suc
     (simp towards-suc at
-    (sets-eq (r .kind ∷ r .id ∷ r .a ∷ r .b ∷ []) t (width * n) h ∙ append-assoc (take (width * n) t) (r .kind ∷ r .id ∷ r .a ∷ r .b ∷ []) (drop (width * n + width) t)))
+    (sets-eq (r .kind ∷ r .id ∷ r .a ∷ r .b ∷ r .place ∷ []) t (width * n) h
+    ∙ append-assoc (take (width * n) t) (r .kind ∷ r .id ∷ r .a ∷ r .b ∷ r .place ∷ []) (drop (width * n + width) t)))
 
 -- a row at n, below rows that stand from n + 1 on
 pub filled-row : {a b : List ℕ} {n : ℕ} {rs : List Row} (r : Row) → width * n + width ≤ length a → Filled a b (n + 1) rs → Filled a (putRow b n r) n (r ∷ rs)
@@ -98,13 +105,14 @@ filled-row {a} {b} {n} {rs} r h f =
       long = length-putRow b n r hb ∙ f .long;
       kept = take-at (take (width * n) b) _ (width * n) e ∙ below;
       rows =
-          ap (take (width * suc (length rs))) (drop-at (take (width * n) b) (words (r ∷ []) ++ drop (width * n + width) b) (width * n) e)
-          ∙ ap (λ (j : ℕ). take j (words (r ∷ []) ++ drop (width * n + width) b)) (four (length rs))
-          ∙ ap (λ (l : List ℕ). r .kind ∷ r .id ∷ r .a ∷ r .b ∷ l) above;
+          ap (take (width * suc (length rs))) (drop-at (take (width * n) b) (wordsOf r ++ drop (width * n + width) b) (width * n) e)
+          ∙ ap (λ (j : ℕ). take j (wordsOf r ++ drop (width * n + width) b)) one-more
+          ∙ take-append-add (wordsOf r) (drop (width * n + width) b) (width * length rs)
+          ∙ ap (λ (l : List ℕ). wordsOf r ++ l) above;
     }
   where
-    four : (k : ℕ) → width * suc k ≡ suc (suc (suc (suc (width * k))))
-    four k = omega arith
+    one-more : width * suc (length rs) ≡ length (wordsOf r) + width * length rs
+    one-more = omega (arith, length-wordsOf r)
 
 -- one row
 pub filled-one : (t : List ℕ) (n : ℕ) (r : Row) → width * n + width ≤ length t → Filled t (putRow t n r) n (r ∷ [])
@@ -139,26 +147,28 @@ filled-fits {a} {b} {n} {rs} f =
 
 -- reading a row back
 module _ (t : List ℕ) (n : ℕ) where
-  pub row-none : capacity t ≤ n → row 0 0 0 0 ≡ rowAt t n
+  pub row-none : capacity t ≤ n → row 0 0 0 0 0 ≡ rowAt t n
   unfolding rowAt noRoom
   row-none h = rw (le-leb (capacity t) n h)
 
-  pub row-some : n < capacity t → row (getD t (width * n) 0) (getD t (width * n + 1) 0) (getD t (width * n + 2) 0) (getD t (width * n + 3) 0) ≡ rowAt t n
+  pub row-some : n < capacity t
+      → row (getD t (width * n) 0) (getD t (width * n + 1) 0) (getD t (width * n + 2) 0) (getD t (width * n + 3) 0) (getD t (width * n + 4) 0) ≡ rowAt t n
   unfolding rowAt noRoom
   row-some h = rw (lt-leb (capacity t) n h)
 
 -- the first of the rows that were filled in
 pub filled-first : {a b : List ℕ} {n : ℕ} {r : Row} {rs : List Row} → Filled a b n (r ∷ rs) → rowAt b n ≡ r
-unfolding words
+unfolding words wordsOf
 filled-first {a} {b} {n} {r} {rs} f =
     let l : width * suc (length rs) ≤ length a - width * n = filled-fits f in
     let w0 : getD b (width * n) 0 ≡ r .kind = rw add-zero at (word 0 (omega arith)) in
     let w1 : getD b (width * n + 1) 0 ≡ r .id = word 1 (omega arith) in
     let w2 : getD b (width * n + 2) 0 ≡ r .a = word 2 (omega arith) in
     let w3 : getD b (width * n + 3) 0 ≡ r .b = word 3 (omega arith) in
-    sym (row-some b n (omega (arith, f .long))) ∙ rw (w0, w1, w2, w3)
+    let w4 : getD b (width * n + 4) 0 ≡ r .place = word 4 (omega arith) in
+    sym (row-some b n (omega (arith, f .long))) ∙ rw (w0, w1, w2, w3, w4)
   where
-    word : (k : ℕ) → k < 4 → getD b (width * n + k) 0 ≡ getD (words (r ∷ rs)) k 0
+    word : (k : ℕ) → k < width → getD b (width * n + k) 0 ≡ getD (words (r ∷ rs)) k 0
     word k h =
         let j : k < width * suc (length rs) = omega arith in
         sym (getD-take (width * suc (length rs)) (drop (width * n) b) k 0 j ∙ getD-drop (width * n) b k 0) ∙ ap (λ (l : List ℕ). getD l k 0) (f .rows)
@@ -177,5 +187,6 @@ filled-rest {a} {b} {n} {r} {rs} f =
           ∙ ap (take (width * length rs)) (sym (drop-drop width (width * n) b))
           ∙ drop-take width (width * length rs) (drop (width * n) b)
           ∙ ap (λ (j : ℕ). drop width (take j (drop (width * n) b))) (sym k)
-          ∙ ap (drop width) (f .rows);
+          ∙ ap (drop width) (f .rows)
+          ∙ drop-at (wordsOf r) (words rs) width (length-wordsOf r);
     }

@@ -189,29 +189,29 @@ module _ {whole rest o : Outcome} {n m : ℕ} {a u v : List ℕ} {r : Out} (next
   turn-refused k q = let w = was-refused h q in sofar-refused inv (more ∙ then-refused _ (w .is)) (w .filled)
 
 -- a row that is written last, when what stands beneath it is done
-module _ {whole : Outcome} (kind id ty : ℕ) (beneath : ℕ → Outcome) (u : List ℕ) (m : ℕ) (f : Bool) (full : f ≡ noRoom u m) (is : whole ≡ roomFor (room u m) (closed kind id ty (beneath (room u m - 1)))) where
+module _ {whole : Outcome} (kind id ty opening : ℕ) (beneath : ℕ → Outcome) (u : List ℕ) (m : ℕ) (f : Bool) (full : f ≡ noRoom u m) (is : whole ≡ roomFor (room u m) (closed kind id ty opening (beneath (room u m - 1)))) where
   pub row-full : f ≡ true → Done whole m u u (Refused NoRoom)
   row-full e = is-refused (is ∙ no-room u m _ f full e) (filled-none u m)
 
   module _ (fits : f ≡ false) (v : List ℕ) (r : Out) (h : Done (beneath (room u (m + 1))) (m + 1) u v r) where
-    is-closed : whole ≡ closed kind id ty (beneath (room u (m + 1)))
-    is-closed = is ∙ some-room u m _ f full fits ∙ ap (λ (x : ℕ). closed kind id ty (beneath x)) (room-used u u m 1 refl)
+    is-closed : whole ≡ closed kind id ty opening (beneath (room u (m + 1)))
+    is-closed = is ∙ some-room u m _ f full fits ∙ ap (λ (x : ℕ). closed kind id ty opening (beneath x)) (room-used u u m 1 refl)
 
-    pub row-read : (e : Cursor) (k : ℕ) (w : List ℕ) → r ≡ Read e k → w ≡ putRow v m (row kind id ty (k - m - 1)) → Done whole m u w (Read e k)
+    pub row-read : (e : Cursor) (k : ℕ) (w : List ℕ) → r ≡ Read e k → w ≡ putRow v m (row kind id ty (k - m - 1) opening) → Done whole m u w (Read e k)
     unfolding closed
     row-read e k w q p =
         let x = was-read h q in
         let l : k - m - 1 ≡ length (x .new) = omega (arith, x .count) in
-        is-read {rs = row kind id ty (length (x .new)) ∷ x .new} (is-closed ∙ ap (closed kind id ty) (x .is)) (omega (arith, x .count))
-        (rw (p, l) (filled-row (row kind id ty (length (x .new))) (full-fits u m f full fits) (x .filled)))
+        is-read {rs = row kind id ty (length (x .new)) opening ∷ x .new} (is-closed ∙ ap (closed kind id ty opening) (x .is)) (omega (arith, x .count))
+        (rw (p, l) (filled-row (row kind id ty (length (x .new)) opening) (full-fits u m f full fits) (x .filled)))
 
     pub row-short : (x : Shortage) → r ≡ Short x → Done whole m u v (Short x)
     unfolding closed
-    row-short x q = let w = was-short h q in is-short (is-closed ∙ ap (closed kind id ty) (w .is)) (filled-below (w .filled))
+    row-short x q = let w = was-short h q in is-short (is-closed ∙ ap (closed kind id ty opening) (w .is)) (filled-below (w .filled))
 
     pub row-refused : (x : Refusal) → r ≡ Refused x → Done whole m u v (Refused x)
     unfolding closed
-    row-refused x q = let w = was-refused h q in is-refused (is-closed ∙ ap (closed kind id ty) (w .is)) (filled-below (w .filled))
+    row-refused x q = let w = was-refused h q in is-refused (is-closed ∙ ap (closed kind id ty opening) (w .is)) (filled-below (w .filled))
 
 -- rows that were written first
 pub is-after : {o : Outcome} {n : ℕ} {a b c : List ℕ} {rs : List Row} {r : Out} → Filled a b n rs → Done o (n + length rs) b c r → Done (prepend rs o) n a c r

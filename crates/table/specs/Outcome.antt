@@ -58,11 +58,11 @@ orEndIf true (short x) rest = read (x .at) []
 orEndIf false (short x) rest = short x
 orEndIf flag (refused k) rest = refused k
 
--- "Kinds 21 to 23: a type index, b all rows beneath, at any depth."
-unfoldable pub closed : ℕ → ℕ → ℕ → Outcome → Outcome
-closed kind id type (read c rs) = read c (row kind id type (length rs) ∷ rs)
-closed kind id type (short x) = short x
-closed kind id type (refused k) = refused k
+-- "Kinds 21 to 23: a type index, b all rows beneath, at any depth." Order 7: "for a structure, enum or union the position at opening"
+unfoldable pub closed : ℕ → ℕ → ℕ → ℕ → Outcome → Outcome
+closed kind id type opening (read c rs) = read c (row kind id type (length rs) opening ∷ rs)
+closed kind id type opening (short x) = short x
+closed kind id type opening (refused k) = refused k
 
 -- "position and origin always come back"
 unfoldable pub backTo : Cursor → Outcome → Outcome

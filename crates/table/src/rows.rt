@@ -10,10 +10,11 @@ pub struct Row {
     pub id: u64,
     pub a: u64,
     pub b: u64,
+    pub place: u64,
 }
 
 // The words of a row.
-pub const WIDTH: usize = 4;
+pub const WIDTH: usize = 5;
 
 // Whether the table has no place for a row after its first n.
 pub fn is_full(t: &[u64], n: usize) -> bool
@@ -32,6 +33,7 @@ pub fn put_row(t: &mut [u64], n: usize, r: Row)
     t[i + 1] = r.id;
     t[i + 2] = r.a;
     t[i + 3] = r.b;
+    t[i + 4] = r.place;
 }
 
 // Row n as the table holds it; past the last whole row it is all 0.
@@ -44,6 +46,7 @@ pub fn row_at(t: &[u64], n: usize) -> Row
             id: 0,
             a: 0,
             b: 0,
+            place: 0,
         };
     }
     let i = WIDTH * n;
@@ -52,6 +55,7 @@ pub fn row_at(t: &[u64], n: usize) -> Row
         id: t[i + 1],
         a: t[i + 2],
         b: t[i + 3],
+        place: t[i + 4],
     }
 }
 

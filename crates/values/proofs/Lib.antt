@@ -3,3 +3,4 @@ pub mod Lists
 pub mod Counts
 pub mod Quickly
 pub mod Runs
+pub mod Placing

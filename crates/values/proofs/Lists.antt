@@ -96,13 +96,13 @@ module _ (s : List ℕ) (set : Settings) (kind count : ℕ) where
     unfolding listOf
     list-full e = is-refused (no-room t n _ f is e) (filled-none t n)
 
-    pub list-rows : f ≡ false → (k x : ℕ) → k ≡ storedOf 25 → x ≡ storedOf kind → (u : List ℕ) → u ≡ putRow t n (row k id x count) → (v : List ℕ) (r : Out)
+    pub list-rows : f ≡ false → (k x : ℕ) → k ≡ storedOf 25 → x ≡ storedOf kind → (u : List ℕ) → u ≡ putRow t n (row k id x count (c .pos)) → (v : List ℕ) (r : Out)
         → Done (elementsFrom s set kind count 0 c (room u (n + 1))) (n + 1) u v r → Done (listOf s set kind id count c (room t n)) n t v r
     unfolding listOf
     list-rows e k x list stored u p v r h =
-        let q : u ≡ putRow t n (row 25 id (storedOf kind) count) = rw (list ∙ sequence-stored, stored) at p in
-        let w : Filled t u n (row 25 id (storedOf kind) count ∷ []) = rw q (filled-one t n (row 25 id (storedOf kind) count) (full-fits t n f is e)) in
-        is-same (some-room t n _ f is e ∙ ap (λ (y : ℕ). prepend (row 25 id (storedOf kind) count ∷ []) (elementsFrom s set kind count 0 c y)) (room-used t u n 1 (w .long))) (is-after w h)
+        let q : u ≡ putRow t n (row 25 id (storedOf kind) count (c .pos)) = rw (list ∙ sequence-stored, stored) at p in
+        let w : Filled t u n (row 25 id (storedOf kind) count (c .pos) ∷ []) = rw q (filled-one t n (row 25 id (storedOf kind) count (c .pos)) (full-fits t n f is e)) in
+        is-same (some-room t n _ f is e ∙ ap (λ (y : ℕ). prepend (row 25 id (storedOf kind) count (c .pos) ∷ []) (elementsFrom s set kind count 0 c y)) (room-used t u n 1 (w .long))) (is-after w h)
 
   -- a block of bytes before it
   module _ (id : ℕ) (c : Cursor) (t : List ℕ) (n : ℕ) (p : Place) (is : p ≡ seekTo s c count) where

@@ -33,7 +33,7 @@ use Rattle.table.specs.Outcome.{Outcome}
 use Rattle.table.specs.Code.Outcome.{Done}
 use Rattle.table.proofs.Filling.{full-fits, filled-fits}
 use Rattle.table.proofs.Outcomes.{is-same, was-read}
-use Rattle.values.specs.Scalar.{scalarOf, onNumber, onBoolean, onText, boolWord, rowed, wordOf}
+use Rattle.values.specs.Scalar.{scalarOf, onNumber, onBoolean, onText, boolWord, rowed, placeBefore, wordOf}
 use Rattle.values.specs.Code.Quick.{isNumber, isTaken, Quickly}
 use Rattle.values.proofs.Scalars.{row-given}
 
@@ -83,6 +83,11 @@ free-fits t n e = full-fits t n (noRoom t n) refl e
 pub is-free : (t : List ℕ) (n : ℕ) (f : Bool) → f ≡ noRoom t n → f ≡ false → noRoom t n ≡ false
 is-free t n f is e = sym is ∙ e
 
+-- what ends so many bytes after q begins at q
+pub read-begins : (q w : ℕ) → placeBefore w (q + w) ≡ q
+unfolding placeBefore
+read-begins q w = omega arith
+
 -- the code's test
 pub is-number : (kind : ℕ) → ((leb 2 kind && leb kind 14) && not (eqb kind 11)) ≡ isNumber kind
 unfolding isNumber
@@ -131,14 +136,15 @@ module _ (kind : ℕ) (num : isNumber kind ≡ true) where
   -- a number that is all there, q being where it stands, and its row
   module _ (s : List ℕ) (set : Settings) (id : ℕ) (c : Cursor) (t : List ℕ) (n w : ℕ) (wide : w ≡ alignOf kind) (q v : ℕ) where
     pub quick-number : (q + w ≤ length s → q ≡ c .pos + paddingOf c (alignmentOf (set .version) w)) → q + w ≤ length s → v ≡ numberAt (set .order) 0 s q w
-        → (x : ℕ) → x ≡ wordOf kind v → (y : ℕ) → y ≡ storedOf kind → noRoom t n ≡ false → (u : List ℕ) → u ≡ putRow t n (row y id x 0)
+        → (x : ℕ) → x ≡ wordOf kind v → (y : ℕ) → y ≡ storedOf kind → noRoom t n ≡ false → (u : List ℕ) → u ≡ putRow t n (row y id x 0 q)
         → Quickly (scalarOf s set kind id c (room t n)) 1 n (c .origin) t u (q + w)
     unfolding onNumber
     quick-number starts h is x word y stored free u put =
         let z : readNumber s set c w ≡ number.Got v (cursorAt (q + w) (c .origin)) = read-there s set c w q v (starts h) h is in
         let k : readNumber s set c (alignOf kind) ≡ number.Got v (cursorAt (q + w) (c .origin)) = rw (← wide) z in
-        let p : u ≡ putRow t n (row (storedOf kind) id (wordOf kind v) 0) = rw (stored, word) at put in
-        quick-row (scalarOf s set kind id c (room t n)) t n (c .origin) (q + w) (row (storedOf kind) id (wordOf kind v) 0) (number-is s set id c (room t n) ∙ rw k) (omega (arith, wide, number-some)) free u p
+        let p : u ≡ putRow t n (row (storedOf kind) id (wordOf kind v) 0 q) = rw (stored, word) at put in
+        let b : placeBefore (alignOf kind) (q + w) ≡ q = rw (← wide) (read-begins q w) in
+        quick-row (scalarOf s set kind id c (room t n)) t n (c .origin) (q + w) (row (storedOf kind) id (wordOf kind v) 0 q) (number-is s set id c (room t n) ∙ rw (k, b)) (omega (arith, wide, number-some)) free u p
 
 -- what the code asks for a number whose kind an arm knows
 module _ (kind k : ℕ) (e : kind ≡ k) where
@@ -155,23 +161,24 @@ booleanOf (suc (suc v)) h c = absurd (omega arith)
 
 module _ (s : List ℕ) (set : Settings) (id : ℕ) (c : Cursor) (t : List ℕ) (n : ℕ) where
   pub quick-boolean : (q v : ℕ) → (q + 1 ≤ length s → q ≡ c .pos + paddingOf c (alignmentOf (set .version) 1)) → q + 1 ≤ length s → v ≡ numberAt (set .order) 0 s q 1 → v ≤ 1
-      → noRoom t n ≡ false → (u : List ℕ) → u ≡ putRow t n (row 1 id v 0) → Quickly (scalarOf s set 1 id c (room t n)) 1 n (c .origin) t u (q + 1)
+      → noRoom t n ≡ false → (u : List ℕ) → u ≡ putRow t n (row 1 id v 0 q) → Quickly (scalarOf s set 1 id c (room t n)) 1 n (c .origin) t u (q + 1)
   unfolding scalarOf onBoolean readBoolean onByte
   quick-boolean q v starts h is small free u put =
       let z : readNumber s set c 1 ≡ number.Got v (cursorAt (q + 1) (c .origin)) = read-there s set c 1 q v (starts h) h is in
       let b = booleanOf v small (cursorAt (q + 1) (c .origin)) in
-      let e : onBoolean id (room t n) (readBoolean s set c) ≡ rowed (room t n) (cursorAt (q + 1) (c .origin)) (row 1 id v 0) = rw (z, b .1 .0, ← b .1 .1) in
-      quick-row (scalarOf s set 1 id c (room t n)) t n (c .origin) (q + 1) (row 1 id v 0) e (omega arith) free u put
+      let e : onBoolean id (room t n) (readBoolean s set c) ≡ rowed (room t n) (cursorAt (q + 1) (c .origin)) (row 1 id v 0 q) = rw (z, b .1 .0, ← b .1 .1, read-begins q 1) in
+      quick-row (scalarOf s set 1 id c (room t n)) t n (c .origin) (q + 1) (row 1 id v 0 q) e (omega arith) free u put
 
   -- a text that is all there and well-formed, q being where its length stands, and its row
   pub quick-text : (q v start : ℕ) → (q + 4 ≤ length s → q ≡ c .pos + paddingOf c (alignmentOf (set .version) 4)) → q + 4 ≤ length s → v ≡ numberAt (set .order) 0 s q 4
-      → start ≡ q + 4 → 0 < v → start + v ≤ length s → (good : Bool) → good ≡ utf8 (part s start (v - 1)) → good ≡ true → noRoom t n ≡ false → (u : List ℕ) → u ≡ putRow t n (row 16 id start (v - 1))
+      → start ≡ q + 4 → 0 < v → start + v ≤ length s → (good : Bool) → good ≡ utf8 (part s start (v - 1)) → good ≡ true → noRoom t n ≡ false → (u : List ℕ) → u ≡ putRow t n (row 16 id start (v - 1) q)
       → Quickly (scalarOf s set 16 id c (room t n)) 1 n (c .origin) t u (start + v)
   unfolding scalarOf onText
   quick-text q v start starts h is e some fits good g k' free u put =
       let z : readNumber s set c 4 ≡ number.Got v (cursorAt start (c .origin)) = rw e (read-there s set c 4 q v (starts h) h is) in
       let k : stringType s set c ≡ text.Got start (v - 1) (cursorAt (start + v) (c .origin)) = string-there s set c start v z some fits (sym g ∙ k') in
-      quick-row (scalarOf s set 16 id c (room t n)) t n (c .origin) (start + v) (row 16 id start (v - 1)) (rw k) (omega arith) free u put
+      let b : placeBefore 4 start ≡ q = rw e (read-begins q 4) in
+      quick-row (scalarOf s set 16 id c (room t n)) t n (c .origin) (start + v) (row 16 id start (v - 1) q) (rw (k, b)) (omega arith) free u put
 
 -- what is taken, by the kind that it is
 module _ (kind k : ℕ) (e : kind ≡ k) where

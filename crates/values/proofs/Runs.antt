@@ -33,10 +33,10 @@ use Rattle.table.specs.Code.Rows.{putRow, Filled}
 use Rattle.table.proofs.Filling.{filled-none, filled-one, filled-then}
 use Rattle.table.specs.Outcome.{Outcome, read, roomFor, prepend, andThen}
 use Rattle.table.proofs.Outcomes.{is-read, then-read}
-use Rattle.values.specs.Scalar.{wordOf, scalarOf, onNumber, rowed}
+use Rattle.values.specs.Scalar.{placeBefore, wordOf, scalarOf, onNumber, rowed}
 use Rattle.values.specs.List.{elementsFrom}
 use Rattle.values.specs.Code.Quick.{isNumber, Quickly, rowsFrom, WhereThere}
-use Rattle.values.proofs.Quickly.{quick-is, number-is, wide-some, wide-most, ranged}
+use Rattle.values.proofs.Quickly.{quick-is, read-begins, number-is, wide-some, wide-most, ranged}
 
 -- what is left of a list, one number on
 on-more : (count i w p l : ℕ) → i < count → p + (count - i) * w ≤ l → p + w + (count - (i + 1)) * w ≤ l
@@ -50,7 +50,7 @@ rows-count s o kind zero i p = refl
 rows-count s o kind (suc left) i p = ap suc (rows-count s o kind left (i + 1) (p + alignOf kind))
 
 abbrev numberRow : List ℕ → ByteOrder → ℕ → ℕ → ℕ → Row
-numberRow s o kind i p = row (storedOf kind) i (wordOf kind (numberAt o 0 s p (alignOf kind))) 0
+numberRow s o kind i p = row (storedOf kind) i (wordOf kind (numberAt o 0 s p (alignOf kind))) 0 p
 
 module _ (s : List ℕ) (o : ByteOrder) (kind w count pos n : ℕ) (t₀ : List ℕ) where
   pub record FillSofar (t : List ℕ) (i p m : ℕ) : Type 0 where
@@ -77,7 +77,7 @@ module _ (s : List ℕ) (o : ByteOrder) (kind w count pos n : ℕ) (t₀ : List 
     pub turn-place : i < count → width * m + width ≤ length t
     turn-place h = omega (arith, inv .room, inv .next)
 
-    pub fill-turn : i < count → w ≡ alignOf kind → (v : ℕ) → v ≡ numberAt o 0 s p w → (x : ℕ) → x ≡ wordOf kind v → (y : ℕ) → y ≡ storedOf kind → (u : List ℕ) → u ≡ putRow t m (row y i x 0) → FillSofar u (i + 1) (p + w) (m + 1)
+    pub fill-turn : i < count → w ≡ alignOf kind → (v : ℕ) → v ≡ numberAt o 0 s p w → (x : ℕ) → x ≡ wordOf kind v → (y : ℕ) → y ≡ storedOf kind → (u : List ℕ) → u ≡ putRow t m (row y i x 0 p) → FillSofar u (i + 1) (p + w) (m + 1)
     unfolding rowsFrom
     fill-turn h wide v number x word y stored u put =
         let e : count - i ≡ suc (count - (i + 1)) = omega arith in
@@ -190,10 +190,11 @@ module _ (s : List ℕ) (set : Settings) (kind : ℕ) (num : isNumber kind ≡ t
   whole-steps : alignOf kind % alignmentOf (set .version) (alignOf kind) ≡ 0
   whole-steps = eqb→eq _ 0 (both-right (leb 1 (alignmentOf (set .version) (alignOf kind))) (eqb (alignOf kind % alignmentOf (set .version) (alignOf kind)) 0) stepped)
 
-  one : (i : ℕ) (c : Cursor) (k v : ℕ) (d : Cursor) → readNumber s set c (alignOf kind) ≡ number.Got v d → 0 < k → scalarOf s set kind i c k ≡ read d (row (storedOf kind) i (wordOf kind v) 0 ∷ [])
+  one : (i : ℕ) (c : Cursor) (k v : ℕ) (d : Cursor) → readNumber s set c (alignOf kind) ≡ number.Got v d → 0 < k → (p : ℕ) → placeBefore (alignOf kind) (d .pos) ≡ p
+      → scalarOf s set kind i c k ≡ read d (row (storedOf kind) i (wordOf kind v) 0 p ∷ [])
   unfolding onNumber rowed roomFor
-  one i c zero v d e h = absurd (omega arith)
-  one i c (suc k) v d e h = number-is kind num s set i c (suc k) ∙ rw e
+  one i c zero v d e h p at = absurd (omega arith)
+  one i c (suc k) v d e h p at = number-is kind num s set i c (suc k) ∙ rw (e, at)
 
   pub run-is : (left i : ℕ) (c : Cursor) (k : ℕ) → c .origin ≤ c .pos → paddingOf c (alignmentOf (set .version) (alignOf kind)) ≡ 0 → c .pos + left * alignOf kind ≤ length s → left ≤ k
       → elementsFrom s set kind left i c k ≡ read (cursorAt (c .pos + left * alignOf kind) (c .origin)) (rowsFrom s (set .order) kind left i (c .pos))
@@ -205,7 +206,7 @@ module _ (s : List ℕ) (set : Settings) (kind : ℕ) (num : isNumber kind ≡ t
       let next : c .pos + alignOf kind + left * alignOf kind ≤ length s = omega (arith, e) in
       let ih = run-is left (i + 1) (moved c (alignOf kind)) (k - 1) (omega arith) (still-aligned c _ steps-some after (alignOf kind) whole-steps z) next (omega arith) in
       let sum : c .pos + alignOf kind + left * alignOf kind ≡ c .pos + suc left * alignOf kind = omega (arith, e) in
-      then-read _ (one i c k _ _ (read-aligned s set c (alignOf kind) z there) (omega arith)) ∙ ap (prepend (numberRow s (set .order) kind i (c .pos) ∷ [])) ih ∙ rw sum
+      then-read _ (one i c k _ _ (read-aligned s set c (alignOf kind) z there) (omega arith) (c .pos) (read-begins (c .pos) (alignOf kind))) ∙ ap (prepend (numberRow s (set .order) kind i (c .pos) ∷ [])) ih ∙ rw sum
 
   start-same : (left : ℕ) (c d : Cursor) (k : ℕ) → readNumber s set c (alignOf kind) ≡ readNumber s set d (alignOf kind) → elementsFrom s set kind (suc left) 0 c k ≡ elementsFrom s set kind (suc left) 0 d k
   unfolding elementsFrom

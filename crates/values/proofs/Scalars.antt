@@ -1,5 +1,5 @@
 -- Laws of a value that opens nothing: one for each way that it goes. Assumes nothing.
-use Prim.Native.Nat.{ℕ, _+_, _≤_, _<_, _^_}
+use Prim.Native.Nat.{ℕ, _+_, _-_, _≤_, _<_, _^_}
 use mathlib.Core.Path.{_≡_, refl, sym, _∙_}
 use mathlib.Core.Bool.{Bool, true, false, _||_, or-assoc, or-false}
 use mathlib.Core.List.{List, [], _∷_}
@@ -36,7 +36,7 @@ use Rattle.table.specs.Code.Rows.{putRow}
 use Rattle.table.specs.Code.Outcome.{Done}
 use Rattle.table.proofs.Filling.{filled-none, filled-one, full-fits}
 use Rattle.table.proofs.Outcomes.{is-read, is-short, is-refused, no-room, some-room}
-use Rattle.values.specs.Scalar.{rowed, boolWord, onBoolean, onFloat128, wordOf, onNumber, onText, scalarOf, enumOf}
+use Rattle.values.specs.Scalar.{rowed, placeBefore, boolWord, onBoolean, onFloat128, wordOf, onNumber, onText, scalarOf, enumOf}
 
 -- a row, where it has a place
 module _ (t : List ℕ) (n : ℕ) (f : Bool) (is : f ≡ noRoom t n) where
@@ -52,6 +52,15 @@ module _ (t : List ℕ) (n : ℕ) (f : Bool) (is : f ≡ noRoom t n) where
     unfolding rowed
     row-given e u p = is-read {rs = r ∷ []} (some-room t n _ f is e) refl (rw p (filled-one t n r (full-fits t n f is e)))
 
+-- where what was read begins
+pub place-none : (size end : ℕ) → end < size → 0 ≡ placeBefore size end
+unfolding placeBefore
+place-none size end h = omega arith
+
+pub place-some : (size end : ℕ) → end - size ≡ placeBefore size end
+unfolding placeBefore
+place-some size end = refl
+
 pub word-one : (v : Bool) → v ≡ true → 1 ≡ boolWord v
 unfolding boolWord
 word-one v e = rw e
@@ -62,10 +71,10 @@ word-none v e = rw e
 
 module _ (s : List ℕ) (set : Settings) (c : Cursor) (id : ℕ) (t : List ℕ) (n : ℕ) where
   module _ (g : Boolean) (is : g ≡ readBoolean s set c) where
-    pub boolean-row : (v : Bool) (d : Cursor) → g ≡ boolean.Got v d → (w : ℕ) → w ≡ boolWord v → (y : ℕ) → y ≡ storedOf 1 → (u : List ℕ) (r : Out) → Done (rowed (room t n) d (row y id w 0)) n t u r
+    pub boolean-row : (v : Bool) (d : Cursor) → g ≡ boolean.Got v d → (w : ℕ) → w ≡ boolWord v → (y : ℕ) → y ≡ storedOf 1 → (p : ℕ) → p ≡ placeBefore 1 (d .pos) → (u : List ℕ) (r : Out) → Done (rowed (room t n) d (row y id w 0 p)) n t u r
         → Done (onBoolean id (room t n) (readBoolean s set c)) n t u r
     unfolding onBoolean
-    boolean-row v d e w k y stored u r h = rw (← is, e, ← k) (rw (stored ∙ own-stored 1 tt) at h)
+    boolean-row v d e w k y stored p at u r h = rw (← is, e, ← k, ← at) (rw (stored ∙ own-stored 1 tt) at h)
 
     pub boolean-bad : g ≡ boolean.Bad → Done (onBoolean id (room t n) (readBoolean s set c)) n t t (Refused InvalidData)
     unfolding onBoolean
@@ -76,10 +85,10 @@ module _ (s : List ℕ) (set : Settings) (c : Cursor) (id : ℕ) (t : List ℕ) 
     boolean-short x e = is-short (rw (← is, e)) (filled-none t n)
 
   module _ (g : Float128) (is : g ≡ readFloat128 s set c) where
-    pub float128-row : (low high : ℕ) (d : Cursor) → g ≡ float128.Got low high d → (y : ℕ) → y ≡ storedOf 11 → (u : List ℕ) (r : Out) → Done (rowed (room t n) d (row y id low high)) n t u r
+    pub float128-row : (low high : ℕ) (d : Cursor) → g ≡ float128.Got low high d → (y : ℕ) → y ≡ storedOf 11 → (w : ℕ) → w ≡ alignOf 11 → (p : ℕ) → p ≡ placeBefore w (d .pos) → (u : List ℕ) (r : Out) → Done (rowed (room t n) d (row y id low high p)) n t u r
         → Done (onFloat128 id (room t n) (readFloat128 s set c)) n t u r
-    unfolding onFloat128
-    float128-row low high d e y stored u r h = rw (← is, e) (rw (stored ∙ own-stored 11 tt) at h)
+    unfolding onFloat128 alignOf
+    float128-row low high d e y stored w wide p at u r h = rw (← is, e) (rw (stored ∙ own-stored 11 tt, at, wide) at h)
 
     pub float128-short : (x : Shortage) → g ≡ float128.Short x → Done (onFloat128 id (room t n) (readFloat128 s set c)) n t t (Short x)
     unfolding onFloat128
@@ -87,9 +96,9 @@ module _ (s : List ℕ) (set : Settings) (c : Cursor) (id : ℕ) (t : List ℕ) 
 
 -- a text
 module _ (id kind : ℕ) (t : List ℕ) (n : ℕ) (g : Text) where
-  pub text-row : (start size : ℕ) (c : Cursor) → g ≡ text.Got start size c → (y : ℕ) → y ≡ storedOf kind → (u : List ℕ) (r : Out) → Done (rowed (room t n) c (row y id start size)) n t u r → Done (onText (storedOf kind) id (room t n) g) n t u r
+  pub text-row : (start size : ℕ) (c : Cursor) → g ≡ text.Got start size c → (y : ℕ) → y ≡ storedOf kind → (p : ℕ) → p ≡ placeBefore 4 start → (u : List ℕ) (r : Out) → Done (rowed (room t n) c (row y id start size p)) n t u r → Done (onText (storedOf kind) id (room t n) g) n t u r
   unfolding onText
-  text-row start size c e y stored u r h = rw e (rw stored at h)
+  text-row start size c e y stored p at u r h = rw (e, ← at) (rw stored at h)
 
   pub text-bad : g ≡ text.Bad → Done (onText (storedOf kind) id (room t n) g) n t t (Refused InvalidData)
   unfolding onText
@@ -122,12 +131,12 @@ module _ (kind w : ℕ) (wide : w ≡ alignOf kind) where
     number-below v d f = rw f at (is .small)
 
     module _ (id : ℕ) (t : List ℕ) (n : ℕ) where
-      pub number-row : (v : ℕ) (d : Cursor) → g ≡ number.Got v d → (x : ℕ) → x ≡ wordOf kind v → (y : ℕ) → y ≡ storedOf kind → (u : List ℕ) (r : Out) → Done (rowed (room t n) d (row y id x 0)) n t u r
+      pub number-row : (v : ℕ) (d : Cursor) → g ≡ number.Got v d → (x : ℕ) → x ≡ wordOf kind v → (y : ℕ) → y ≡ storedOf kind → (p : ℕ) → p ≡ placeBefore w (d .pos) → (u : List ℕ) (r : Out) → Done (rowed (room t n) d (row y id x 0 p)) n t u r
           → Done (onNumber kind id (room t n) (readNumber s set c (alignOf kind))) n t u r
       unfolding onNumber
-      number-row v d f x k y stored u r h =
+      number-row v d f x k y stored p at u r h =
           let z : readNumber s set c (alignOf kind) ≡ number.Got v d = rw wide at (sym (is .is) ∙ f) in
-          rw (z, ← k) (rw stored at h)
+          rw (z, ← k) (rw (stored, at, wide) at h)
 
       pub number-short : (x : Shortage) → g ≡ number.Short x → Done (onNumber kind id (room t n) (readNumber s set c (alignOf kind))) n t t (Short x)
       unfolding onNumber

@@ -18,9 +18,11 @@ elementsFrom s set kind zero i c room = read c []
 elementsFrom s set kind (suc left) i c room =
     andThen (scalarOf s set kind i c room) (λ d used. elementsFrom s set kind left (i + 1) d (room - used))
 
--- "Sequences and arrays: kind 25, a element's stored kind .., b elements"; "a list's row after its length .. and before other elements"
+-- "Sequences and arrays: kind 25, a element's stored kind .., b elements"; "a list's row after its length .. and before other elements". Order 7: "for a sequence
+-- the position after its length; for an array that after any DHEADER. An XCDR2 Mutable list of primitives tells the position the lookup left.": each is where
+-- the reading stands when its elements are to be read, before the first one is aligned
 unfoldable pub listOf : List ℕ → Settings → ℕ → ℕ → ℕ → Cursor → ℕ → Outcome
-listOf s set kind id count c room = roomFor room (prepend (row 25 id (storedOf kind) count ∷ []) (elementsFrom s set kind count 0 c (room - 1)))
+listOf s set kind id count c room = roomFor room (prepend (row 25 id (storedOf kind) count (c .pos) ∷ []) (elementsFrom s set kind count 0 c (room - 1)))
 
 unfoldable pub onBlock : Place → Outcome → Outcome
 onBlock (place.Short x) o = short x

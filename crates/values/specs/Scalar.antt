@@ -1,5 +1,5 @@
 -- A value that opens nothing.
-use Prim.Native.Nat.{ℕ}
+use Prim.Native.Nat.{ℕ, _-_}
 use mathlib.Core.Bool.{Bool, true, false}
 use mathlib.Core.List.{List, [], _∷_}
 use lib.Dec.{eqb}
@@ -27,19 +27,24 @@ use Rattle.table.specs.Outcome.{Outcome, read, short, refused, roomFor}
 unfoldable pub rowed : ℕ → Cursor → Row → Outcome
 rowed room c r = roomFor room (read c (r ∷ []))
 
+-- order 7: "the data position of the value's first byte after alignment". The bytes of what was read end where the reading then stands, so it is that position
+-- less their number (proofs/Placing.antt: it is the aligned position, and the bytes there spell the value)
+unfoldable pub placeBefore : ℕ → ℕ → ℕ
+placeBefore size end = end - size
+
 unfoldable pub boolWord : Bool → ℕ
 boolWord true = 1
 boolWord false = 0
 
 -- "Bool: byte 0 or 1, else 2."
 unfoldable pub onBoolean : ℕ → ℕ → Boolean → Outcome
-onBoolean id room (boolean.Got v c) = rowed room c (row 1 id (boolWord v) 0)
+onBoolean id room (boolean.Got v c) = rowed room c (row 1 id (boolWord v) 0 (placeBefore 1 (c .pos)))
 onBoolean id room boolean.Bad = refused InvalidData
 onBoolean id room (boolean.Short x) = short x
 
 -- "FLOAT128 low half a, high half b"
 unfoldable pub onFloat128 : ℕ → ℕ → Float128 → Outcome
-onFloat128 id room (float128.Got low high c) = rowed room c (row 11 id low high)
+onFloat128 id room (float128.Got low high c) = rowed room c (row 11 id low high (placeBefore 16 (c .pos)))
 onFloat128 id room (float128.Short x) = short x
 
 -- "Scalars put the value in a: signed extended to 64 bits, floats as bits"
@@ -48,12 +53,12 @@ wordOf kind v = pick (isSigned kind) (extended (alignOf kind) v) v
 
 -- any other number: "BYTE is stored as 13." "CHAR8: the byte's number."
 unfoldable pub onNumber : ℕ → ℕ → ℕ → Number → Outcome
-onNumber kind id room (number.Got v c) = rowed room c (row (storedOf kind) id (wordOf kind v) 0)
+onNumber kind id room (number.Got v c) = rowed room c (row (storedOf kind) id (wordOf kind v) 0 (placeBefore (alignOf kind) (c .pos)))
 onNumber kind id room (number.Short x) = short x
 
--- "Text 16: a start in the data, b bytes; 17: b 16-bit units."
+-- "Text 16: a start in the data, b bytes; 17: b 16-bit units." Order 7: "for a text, of its length", which are the four bytes before its start
 unfoldable pub onText : ℕ → ℕ → ℕ → Text → Outcome
-onText kind id room (text.Got start size c) = rowed room c (row kind id start size)
+onText kind id room (text.Got start size c) = rowed room c (row kind id start size (placeBefore 4 start))
 onText kind id room text.Bad = refused InvalidData
 onText kind id room (text.Short x) = short x
 

@@ -112,6 +112,7 @@ pub fn list(
         id,
         a: kinds::stored_of(kind) as u64,
         b: count,
+        place: at.pos as u64,
     };
     put_row(t, n, row);
     elements(s, set, t, kind, count, at, n + 1)

@@ -74,6 +74,7 @@ fn number_at(
         id,
         a: word_of(kind, width, v),
         b: 0,
+        place: q as u64,
     };
     put_row(t, n, row);
     q + width
@@ -100,6 +101,7 @@ fn boolean_at(s: &[u8], set: Settings, t: &mut [u64], id: u64, at: Cursor, n: us
         id,
         a: v,
         b: 0,
+        place: q as u64,
     };
     put_row(t, n, row);
     q + widths::BOOLEAN
@@ -133,6 +135,7 @@ pub fn text_at(s: &[u8], set: Settings, t: &mut [u64], id: u64, at: Cursor, n: u
         id,
         a: start as u64,
         b: (size - 1) as u64,
+        place: q as u64,
     };
     put_row(t, n, row);
     start + size
@@ -283,6 +286,7 @@ fn fill(
             id: i as u64,
             a: word_of(kind, width, v),
             b: 0,
+            place: p as u64,
         };
         put_row(t, m, row);
         i += 1;

@@ -5,7 +5,7 @@ ghost use Rattle.kinds.specs.Kinds.{alignOf, storedOf};
 ghost use Rattle.table.specs.Rows.{room};
 ghost use Rattle.table.specs.Code.Outcome.{Done};
 ghost use Rattle.wire.specs.Number.{readBoolean, readFloat128, readNumber};
-ghost use Rattle.values.specs.Scalar.{rowed, boolWord, onBoolean, onFloat128, wordOf, onNumber, onText, scalarOf, enumOf};
+ghost use Rattle.values.specs.Scalar.{rowed, placeBefore, boolWord, onBoolean, onFloat128, wordOf, onNumber, onText, scalarOf, enumOf};
 use kinds::names::BOOLEAN;
 use kinds::names::CHAR16;
 use kinds::names::FLOAT128;
@@ -14,6 +14,7 @@ use kinds::names::INT16;
 use kinds::names::INT32;
 use kinds::names::STRING8;
 use kinds::names::STRING16;
+use kinds::widths;
 use table::out::Out;
 use table::out::Refusal;
 use table::rows::Row;
@@ -26,6 +27,9 @@ use wire::number::Float128;
 use wire::number::Number;
 use wire::settings::Settings;
 
+// The bytes of a text's length.
+const LENGTH: usize = 4;
+
 // The row of a value that was read, if it has a place.
 fn give_row(t: &mut [u64], n: usize, c: Cursor, r: Row) -> Out
     ensures { λ o. ⌜ Done (rowed (room (now (t .entry)) n) c r) n (now (t .entry)) (now (t .exit)) o ⌝ }
@@ -35,6 +39,16 @@ fn give_row(t: &mut [u64], n: usize, c: Cursor, r: Row) -> Out
     }
     put_row(t, n, r);
     Out::Read(c, n + 1)
+}
+
+// Where what was read begins: it ends at `end`, and has so many bytes.
+fn place_before(size: usize, end: usize) -> u64
+    ensures { λ r. ⌜ r ≡ placeBefore size end ⌝ }
+{
+    if end < size {
+        return 0;
+    }
+    (end - size) as u64
 }
 
 fn bool_word(v: bool) -> u64
@@ -53,6 +67,7 @@ fn boolean(s: &[u8], set: Settings, t: &mut [u64], id: u64, at: Cursor, n: usize
                 id,
                 a: bool_word(v),
                 b: 0,
+                place: place_before(widths::BOOLEAN, c.pos),
             };
             give_row(t, n, c, row)
         }
@@ -71,6 +86,7 @@ fn float128(s: &[u8], set: Settings, t: &mut [u64], id: u64, at: Cursor, n: usiz
                 id,
                 a: low,
                 b: high,
+                place: place_before(kinds::align_of(FLOAT128) as usize, c.pos),
             };
             give_row(t, n, c, row)
         }
@@ -102,6 +118,7 @@ fn number(s: &[u8], set: Settings, t: &mut [u64], kind: u8, id: u64, at: Cursor,
                 id,
                 a: word_of(kind, width, v),
                 b: 0,
+                place: place_before(width, c.pos),
             };
             give_row(t, n, c, row)
         }
@@ -120,6 +137,7 @@ fn text_row(t: &mut [u64], id: u64, n: usize, kind: u8, got: Text) -> Out
                 id,
                 a: start as u64,
                 b: size as u64,
+                place: place_before(LENGTH, start),
             };
             give_row(t, n, c, row)
         }

@@ -4,11 +4,11 @@ use mathlib.Core.Path.{_≡_}
 use mathlib.Core.List.{List, [], _∷_, _++_}
 use lib.ListN.{length, take, drop, replicate}
 use Rattle.table.specs.declared.rows.Row.{Row}
-use Rattle.table.specs.Rows.{width, words}
+use Rattle.table.specs.Rows.{width, wordsOf, words}
 
 -- the table with a row at n
 unfoldable pub putRow : List ℕ → ℕ → Row → List ℕ
-putRow t n r = take (width * n) t ++ (words (r ∷ []) ++ drop (width * n + width) t)
+putRow t n r = take (width * n) t ++ (wordsOf r ++ drop (width * n + width) t)
 
 -- the first i words, and zeros after them
 abbrev pub clearedFrom : ℕ → List ℕ → List ℕ

@@ -36,7 +36,7 @@ Quickly o k n origin before after (suc p) = Done o n before after (Read (cursorA
 -- the rows of a list's numbers from number i on, which stand one after the other from p on
 unfoldable pub rowsFrom : List ℕ → ByteOrder → ℕ → ℕ → ℕ → ℕ → List Row
 rowsFrom s o kind zero i p = []
-rowsFrom s o kind (suc left) i p = row (storedOf kind) i (wordOf kind (numberAt o 0 s p (alignOf kind))) 0 ∷ rowsFrom s o kind left (i + 1) (p + alignOf kind)
+rowsFrom s o kind (suc left) i p = row (storedOf kind) i (wordOf kind (numberAt o 0 s p (alignOf kind))) 0 p ∷ rowsFrom s o kind left (i + 1) (p + alignOf kind)
 
 -- what a position after a list says, where it is not 0: the list is not empty, the data has its numbers from p on, and the table a place for each row
 unfoldable pub WhereThere : List ℕ → List ℕ → ℕ → ℕ → ℕ → ℕ → ℕ → Type 0

@@ -41,6 +41,15 @@ mul-t-4 c = search needs
 slice-write-t-4 : tie.Need-slice-write-t-4
 slice-write-t-4 c = simp length-set (omega arith)
 
+add-t-4 : tie.Need-add-t-4
+add-t-4 c = search needs
+
+mul-t-5 : tie.Need-mul-t-5
+mul-t-5 c = search needs
+
+slice-write-t-5 : tie.Need-slice-write-t-5
+slice-write-t-5 c = simp length-set (omega arith)
+
 same-length : tie.Need-same-length
 same-length c = search needs
 
@@ -63,5 +72,8 @@ put-row-spec =
     add-t-3
     mul-t-4
     slice-write-t-4
+    add-t-4
+    mul-t-5
+    slice-write-t-5
     same-length
     returns)

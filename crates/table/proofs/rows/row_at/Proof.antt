@@ -42,6 +42,15 @@ mul-t17 c = search needs
 shared-slice-read-t19 : tie.Need-shared-slice-read-t19
 shared-slice-read-t19 c = search needs
 
+add-t20 : tie.Need-add-t20
+add-t20 c = search needs
+
+mul-t21 : tie.Need-mul-t21
+mul-t21 c = search needs
+
+shared-slice-read-t23 : tie.Need-shared-slice-read-t23
+shared-slice-read-t23 c = search needs
+
 returns-2 : tie.Need-returns-2
 returns-2 c = search (needs, row-some)
 
@@ -62,4 +71,7 @@ row-at-spec =
     add-t16
     mul-t17
     shared-slice-read-t19
+    add-t20
+    mul-t21
+    shared-slice-read-t23
     returns-2)

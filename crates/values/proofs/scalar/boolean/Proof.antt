@@ -18,6 +18,9 @@ cast-t14 c = search needs
 bool-word-requires : tie.Need-bool-word-requires
 bool-word-requires c κs = search needs
 
+place-before-requires : tie.Need-place-before-requires
+place-before-requires c κs = search needs
+
 give-row-requires : tie.Need-give-row-requires
 give-row-requires c κs = search needs
 
@@ -48,6 +51,7 @@ boolean-spec =
     stored-of-requires
     cast-t14
     bool-word-requires
+    place-before-requires
     give-row-requires
     enum-told
     enum-known-x

@@ -15,6 +15,15 @@ stored-of-requires c κs = search needs
 cast-t15 : tie.Need-cast-t15
 cast-t15 c = search needs
 
+align-of-requires : tie.Need-align-of-requires
+align-of-requires c κs = search needs
+
+cast-place-before : tie.Need-cast-place-before
+cast-place-before c = search needs
+
+place-before-requires : tie.Need-place-before-requires
+place-before-requires c κs = search needs
+
 give-row-requires : tie.Need-give-row-requires
 give-row-requires c κs = search needs
 
@@ -38,6 +47,9 @@ float128-spec =
     enum-known-low
     stored-of-requires
     cast-t15
+    align-of-requires
+    cast-place-before
+    place-before-requires
     give-row-requires
     enum-known-x
     same-length

@@ -24,6 +24,9 @@ cast-t17 c = search needs
 word-of-requires : tie.Need-word-of-requires
 word-of-requires c κs = search (needs, width-some, width-most, number-below)
 
+place-before-requires : tie.Need-place-before-requires
+place-before-requires c κs = search needs
+
 give-row-requires : tie.Need-give-row-requires
 give-row-requires c κs = search needs
 
@@ -50,6 +53,7 @@ number-spec =
     enum-known-v
     cast-t17
     word-of-requires
+    place-before-requires
     give-row-requires
     enum-known-x
     same-length

@@ -12,6 +12,9 @@ stored-of-requires c κs = search needs
 cast-t13 : tie.Need-cast-t13
 cast-t13 c = search needs
 
+place-before-requires : tie.Need-place-before-requires
+place-before-requires c κs = search needs
+
 give-row-requires : tie.Need-give-row-requires
 give-row-requires c κs = search needs
 
@@ -40,6 +43,7 @@ text-row-spec =
     enum-known-got
     stored-of-requires
     cast-t13
+    place-before-requires
     give-row-requires
     enum-told
     enum-known-got-2
