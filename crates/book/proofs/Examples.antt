@@ -8,7 +8,7 @@ use lib.Dec.{eqb}
 use lib.ListN.{length, take, drop, set, replicate}
 use Rattle.ground.specs.Choice.{both, every}
 use Rattle.book.specs.Types.{Member, BookType, default, bounded, labelsOf, memberOf, pastMember, membersOf, typeOf, pastType, typesFrom, typesOf, typeCount, noType, typeNo}
-use Rattle.book.specs.Rules.{sizeOk, versionOk, typeCountOk, headOk, filled, recordLengthOk, kindOk, extensibilityOk, baseOk, boundFlagOk, codesOk, arrayBoundOk, boundOk, boundsOk, elementOk, memberCountOk, memberKindOk, someMemberOk, countOk, ownOk}
+use Rattle.book.specs.Rules.{sizeOk, versionOk, typeCountOk, headOk, filled, insideOk, ownSizeOk, recordLengthOk, kindOk, extensibilityOk, baseOk, boundFlagOk, codesOk, arrayBoundOk, boundOk, boundsOk, elementOk, memberCountOk, memberKindOk, someMemberOk, countOk, ownOk}
 use Rattle.book.specs.Rules.{otherId, idOk, linkOk, flagsOk, constructOk, labelCountOk, firstOfUnion, firstIdOk, firstKindOk, firstDefaultOk, firstLabelOk, memberOk, membersOk, typeOk, recordOk, recordsOk, bookOk}
 
 -- THE RULES ONE BY ONE, each asked of the whole book, in reading order
@@ -202,5 +202,5 @@ types1 = refl
 
 -- THE TABLE
 judged : both (every bookOk right) (every refused bad) ≡ true
-unfolding default bounded labelsOf memberOf pastMember membersOf typeOf pastType typesFrom typesOf noType typeNo sizeOk versionOk typeCountOk headOk filled recordLengthOk kindOk extensibilityOk baseOk boundFlagOk codesOk arrayBoundOk boundOk boundsOk elementOk memberCountOk memberKindOk someMemberOk countOk ownOk every otherId idOk linkOk flagsOk constructOk labelCountOk firstOfUnion firstIdOk firstKindOk firstDefaultOk firstLabelOk memberOk membersOk typeOk recordOk recordsOk bookOk
+unfolding default bounded labelsOf memberOf pastMember membersOf typeOf pastType typesFrom typesOf noType typeNo sizeOk versionOk typeCountOk headOk filled insideOk ownSizeOk recordLengthOk kindOk extensibilityOk baseOk boundFlagOk codesOk arrayBoundOk boundOk boundsOk elementOk memberCountOk memberKindOk someMemberOk countOk ownOk every otherId idOk linkOk flagsOk constructOk labelCountOk firstOfUnion firstIdOk firstKindOk firstDefaultOk firstLabelOk memberOk membersOk typeOk recordOk recordsOk bookOk
 judged = refl
