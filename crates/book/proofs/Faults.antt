@@ -15,6 +15,7 @@ use Rattle.book.specs.declared.fault.Reason.{Reason}
 use Rattle.book.specs.declared.fault.Reason.the-variants.{Head, RecordLength, CodeRange, TypeLink, Bound, MemberList, FirstMember}
 use Rattle.book.specs.declared.fault.Fault.{Fault}
 use Rattle.book.specs.declared.fault.Fault.the-variants.{Nothing, In}
+use Rattle.book.proofs.Judging.{few-types}
 use Rattle.book.specs.Fault.{reasonNumber, faultNumber, faultWord, isRight, theHead, unless, _then_, headFault, ownFault, memberFault, membersFault, recordFault, recordsFault, faultOf}
 
 -- THE NUMBERS
@@ -177,6 +178,9 @@ pub told-nothing : (b : List ℕ) → faultOf b ≡ Nothing → bookOk b ≡ tru
 unfolding isRight
 told-nothing b e = sym (book-right b) ∙ ap isRight e
 
+pub right-told : (b : List ℕ) → bookOk b ≡ true → faultOf b ≡ Nothing
+right-told b e = right-nothing (faultOf b) (book-right b ∙ e)
+
 -- A RECORD'S NUMBER HAS TWO BYTES
 unfoldable pub Short : Fault → Type 0
 Short Nothing = Unit {0}
@@ -214,3 +218,21 @@ module _ (types : List BookType) (k : ℕ) (h : k ≤ 65535) where
   record-short : (s : List ℕ) → Short (recordFault types k s)
   unfolding recordFault
   record-short s = next _ _ _ (next _ _ _ (short-then _ _ (own-short (typeOf s)) (members-short (typeOf s) [] (typeOf s .members) (pair s 0 - 14))))
+
+records-short : (types : List BookType) (k n : ℕ) (s : List ℕ) → k + n ≤ 65536 → Short (recordsFault types k n s)
+unfolding recordsFault
+records-short types k zero s h = short-unless (eqb (length s) 0) theHead Head (omega arith)
+records-short types k (suc n) s h =
+    short-then (recordFault types k s) (recordsFault types (suc k) n (pastType s)) (record-short types k (omega arith) s) (records-short types (suc k) n (pastType s) (omega arith))
+
+book-short : (b : List ℕ) → Short (faultOf b)
+unfolding faultOf unless _then_ Short
+book-short b = rw (head-rules b) (by-head (headOk b) refl)
+  where
+    by-head : (t : Bool) → headOk b ≡ t → Short (unless t (In theHead Head) then recordsFault (typesOf b) 0 (typeCount b) (drop 7 b))
+    by-head true e = records-short (typesOf b) 0 (typeCount b) (drop 7 b) (omega (arith, few-types b e))
+    by-head false e = omega arith
+
+pub told-short : (b : List ℕ) (k : ℕ) (why : Reason) → faultOf b ≡ In k why → k ≤ 65535
+unfolding Short
+told-short b k why e = rw e at (book-short b)

@@ -5,8 +5,9 @@ ghost use lib.ListN.{length, set};
 ghost use Rattle.sinotayam.specs.Answer.{codeOf};
 ghost use Rattle.sinotayam.specs.Prepared.{prepareOf, preparedFrom, placesIn};
 use crate::answer::Status;
+use book::fault::Fault;
 use book::index::index;
-use book::judge::judge;
+use book::judge::fault;
 use book::types::type_count;
 
 // The words that the index of any book has room in.
@@ -28,8 +29,8 @@ fn unprepared(lent: &mut [u32], status: Status) -> Status
 pub fn prepare(book: &[u8], lent: &mut [u32]) -> Status
     ensures { λ r. ⌜ (codeOf r ≡ prepareOf (now (book .entry)) (now (lent .entry))) × (now (lent .exit) ≡ preparedFrom (now (book .entry)) (now (lent .entry))) ⌝ }
 {
-    if !judge(book) {
-        return unprepared(lent, Status::BadBook);
+    if let Fault::In(_, why) = fault(book) {
+        return unprepared(lent, Status::BadBook(why));
     }
     let n = type_count(book);
     if lent.len() <= n {
