@@ -35,6 +35,12 @@ module _ (clauses : List Clause) (b index : List ℕ) (root p kind : ℕ) (o : B
       let kind : opens (typeNo (typesBy b index) root .kind) ≡ true = rw (← at .is, ← is, ← opened) (not-false o h) in
       rw (kind, own)
 
+-- a book of which nothing is told has 64 types at most
+pub judge-few : (b : List ℕ) (f : Fault) → f ≡ faultOf b → (t : Bool) → t ≡ isRight f → not t ≡ false → (n : ℕ) → n ≡ typeCount b → n ≤ 64
+judge-few b f found t right z n counted =
+    let good : bookOk b ≡ true = sym (book-right b) ∙ (rw (← found, ← right) (not-false t z)) in
+    omega (arith, count-good b good .1)
+
 -- "Otherwise 8, 9, then 16.", by what the judge found: of a book that breaks a rule, its number
 module _ (b : List ℕ) (root : ℕ) (onlyXcdr2 : Bool) (f : Fault) (found : f ≡ faultOf b) (t : Bool) (right : t ≡ isRight f) where
   judged : bookOk b ≡ t
@@ -48,23 +54,19 @@ module _ (b : List ℕ) (root : ℕ) (onlyXcdr2 : Bool) (f : Fault) (found : f �
     good : bookOk b ≡ true
     good = judged ∙ not-false t z
 
-    -- the judge counts 64 types at most
-    pub judge-few : n ≤ 64
-    judge-few = omega (arith, counted, count-good b good .1)
-
     pub check-root : n ≤ root → 9 ≡ checkOf b root onlyXcdr2
     unfolding checkOf
     check-root h = rw (good, ← counted, le-ltb root n h)
 
     pub root-small : root < n → root < 64
-    root-small h = omega (arith, judge-few)
+    root-small h = omega (arith, judge-few b f found t right z n counted)
 
     -- the types of the book are those that its whole index finds
     module _ (low : root < n) (l u : List ℕ) (long : length l ≡ 64) (written : u ≡ pick (headOk b) (indexed b l) l)
         (r : Bool) (is : r ≡ fits (clausesFor onlyXcdr2) (typesBy b (take (n - 0) u)) root) where
       same : r ≡ fits (clausesFor onlyXcdr2) (typesOf b) root
       same =
-          let m : n - 0 ≡ indexCount b (length l) = omega (arith, counted, judge-few) in
+          let m : n - 0 ≡ indexCount b (length l) = omega (arith, counted, judge-few b f found t right z n counted) in
           let w : u ≡ indexed b l = rw (head-good b good) at written in
           let e : typesBy b (take (n - 0) u) ≡ typesOf b = rw (m, w) (index-good b l good (omega arith)) in
           is ∙ ap (λ (types : List BookType). fits (clausesFor onlyXcdr2) types root) e

@@ -95,11 +95,13 @@ pub fn read(book: &[u8], root: usize, message: &[u8], mode: Mode, table: &mut [u
     ensures { λ r. ⌜ Settled (readOf (now (book .entry)) root (now (message .entry)) mode (capacity (now (table .entry)))) (now (table .entry)) (now (table .exit)) r ⌝ }
 {
     let mut index = [0u32; WORDS];
-    if let Fault::In(_, why) = judge_into(book, &mut index[1..]) {
-        return refused(table, Status::BadBook(why));
+    match judge_into(book, &mut index[1..]) {
+        Fault::In(_, why) => refused(table, Status::BadBook(why)),
+        Fault::Nothing => {
+            index[0] = type_count(book) as u32;
+            read_prepared(book, &index, root, message, mode, table)
+        }
     }
-    index[0] = type_count(book) as u32;
-    read_prepared(book, &index, root, message, mode, table)
 }
 
 // Reads data whose identifier is known: the Rust's deserialize_top_level_type_from_representation_identifier.
@@ -114,9 +116,11 @@ pub fn read_data(
     ensures { λ r. ⌜ Settled (readDataOf (now (book .entry)) root id (now (s .entry)) mode (capacity (now (table .entry)))) (now (table .entry)) (now (table .exit)) r ⌝ }
 {
     let mut index = [0u32; WORDS];
-    if let Fault::In(_, why) = judge_into(book, &mut index[1..]) {
-        return refused(table, Status::BadBook(why));
+    match judge_into(book, &mut index[1..]) {
+        Fault::In(_, why) => refused(table, Status::BadBook(why)),
+        Fault::Nothing => {
+            index[0] = type_count(book) as u32;
+            read_data_prepared(book, &index, root, id, s, mode, table)
+        }
     }
-    index[0] = type_count(book) as u32;
-    read_data_prepared(book, &index, root, id, s, mode, table)
 }

@@ -32,7 +32,7 @@ part-fits-by-start : tie.Need-part-fits-by-start
 part-fits-by-start c = search needs
 
 part-fits-by-end : tie.Need-part-fits-by-end
-part-fits-by-end c = search (needs, judge-few)
+part-fits-by-end c = search (needs, judge-few _ _ (c .before .before .before .before .before .before .judge-into .ensures .0) _ (c .before .before .before .before .is-right .ensures) (c .before .before .before .if1 .left) _ (c .before .before .type-count .ensures .0))
 
 fits-by-requires : tie.Need-fits-by-requires
 fits-by-requires c κs = search (needs, root-small)
