@@ -5,6 +5,7 @@ use mathlib.Core.Bool.{true, false}
 use lib.Dec.{eqb, ltb}
 use borrow.Author.Tests.{eqb-false, ltb-true}
 use native.Mathlib.Omega.{arith}
+use Rattle.book.specs.declared.fault.Reason.{Reason}
 use Rattle.book.specs.Fault.{reasonNumber}
 use Rattle.book.proofs.Faults.{reason-told}
 use Rattle.sinotayam.specs.declared.answer.Status.{Status}
@@ -36,6 +37,11 @@ status-not-four NoDiscriminator = by-tests 14 refl refl
 status-not-four NotText = by-tests 15 refl refl
 status-not-four Unfit = by-tests 16 refl refl
 status-not-four (BadBook why) = let n = reason-told why in record { other = λ e. omega (arith, n .low); small = omega (arith, n .high) }
+
+-- the number of a bad book is its reason's
+pub code-reason : (status : Status) (why : Reason) (n : ℕ) → status ≡ BadBook why → n ≡ reasonNumber why → n ≡ codeOf status
+unfolding codeOf
+code-reason status why n e f = rw e f
 
 pub listed-not-four : {n : ℕ} → Listed n → NotFour n
 listed-not-four l = rw (← l .1) (status-not-four (l .0))

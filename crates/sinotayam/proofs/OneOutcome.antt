@@ -22,7 +22,7 @@ answerOf : ℕ → Status
 answerOf k =
     pick (eqb k 0) Read (pick (eqb k 1) NotEnoughData (pick (eqb k 2) InvalidData (pick (eqb k 3) InvalidType
     (pick (eqb k 8) NotPrepared (pick (eqb k 9) BadRoot (pick (eqb k 10) TooLong (pick (eqb k 11) Unsupported (pick (eqb k 12) TooDeep
-    (pick (eqb k 13) NoRoom (pick (eqb k 14) NoDiscriminator (pick (eqb k 15) NotText (pick (eqb k 16) Unfit (BadBook (reasonOf k)))))))))))))))
+    (pick (eqb k 13) NoRoom (pick (eqb k 14) NoDiscriminator (pick (eqb k 15) NotText (pick (eqb k 16) Unfit (BadBook (reasonOf k))))))))))))))
 
 answer-back : (n : Status) → answerOf (codeOf n) ≡ n
 unfolding answerOf reasonOf codeOf reasonNumber
