@@ -121,6 +121,24 @@ enum = book 1 (aType 21 0xFF 1 (aMember 0 0xFF 0))
 abbrev union : List ℕ
 union = over (aType 23 0xFF 1 (aMember 0 0 0))
 
+-- an ARRAY of bound 0
+abbrev array : List ℕ
+array = set (set sequence 23 26) 26 1
+
+-- INT32, and a byte after it
+abbrev longer : List ℕ
+longer = book 1 (int32 ++ 0 ∷ [])
+
+-- a structure of two, with the ids 7 and 8; one whose member, with the id 0, holds a label, and one with 18
+abbrev twoMembers : List ℕ
+twoMembers = over (aType 22 0xFF 2 (aMember 7 0 0 ++ aMember 8 0 0))
+
+abbrev labelled : List ℕ
+labelled = over (aType 22 0xFF 1 (aMember 0 0 1))
+
+abbrev labels18 : List ℕ
+labels18 = over (aType 22 0xFF 1 (aMember 0 0 18))
+
 -- n times INT32; n members, with the ids n - 1 to 0
 abbrev types : ℕ → List ℕ
 types zero = []
@@ -156,9 +174,9 @@ bad =
     ∷ breaks 2 (In theHead Head) (book 65 (types 65))
     ∷ breaks 3 (In 0 RecordLength) (set plain 8 15)
     ∷ breaks 3 (In 0 RecordLength) (set (book 1 (take 13 int32)) 8 13)
-    ∷ breaks 3 (In 0 RecordLength) (set (book 1 (int32 ++ 0 ∷ [])) 8 15)
-    ∷ breaks 3 (In 1 RecordLength) (over (aType 22 0xFF 1 (take 8 (aMember 7 0 0))))
-    ∷ breaks 3 (In 1 RecordLength) (over (aType 22 0xFF 1 (take 9 (aMember 7 0 1))))
+    ∷ breaks 3 (In 0 RecordLength) (set longer 8 15)
+    ∷ breaks 3 (In 1 RecordLength) (set example1 34 2)
+    ∷ breaks 3 (In 1 RecordLength) (set example1 43 1)
     ∷ breaks 4 (In 0 CodeRange) (set plain 9 28)
     ∷ breaks 5 (In 0 CodeRange) (set plain 10 3)
     ∷ breaks 6 (In 0 CodeRange) (set plain 11 4)
@@ -169,12 +187,12 @@ bad =
     ∷ breaks 10 (In 0 TypeLink) (set plain 18 0xFE)
     ∷ breaks 10 (In 1 TypeLink) (set sequence 32 1)
     ∷ breaks 10 (In 1 TypeLink) (set (set sequence 31 0xFF) 32 0xFF)
-    ∷ breaks 10 (In 1 TypeLink) (set (set (set (set sequence 23 26) 26 1) 31 0xFF) 32 0xFF)
+    ∷ breaks 10 (In 1 TypeLink) (set (set array 31 0xFF) 32 0xFF)
     ∷ breaks 11 (In 1 MemberList) (over (aType 22 0xFF 65 (fields 65)))
     ∷ breaks 12 (In 1 MemberList) (set example1 23 18)
     ∷ breaks 13 (In 0 MemberList) (set plain 9 21)
     ∷ breaks 13 (In 0 MemberList) (set plain 9 23)
-    ∷ breaks 14 (In 1 MemberList) (over (aType 22 0xFF 2 (aMember 7 0 0 ++ aMember 7 0 0)))
+    ∷ breaks 14 (In 1 MemberList) (set twoMembers 47 7)
     ∷ breaks 15 (In 1 FirstMember) (set union 38 1)
     ∷ breaks 16 (In 1 TypeLink) (set example1 40 1)
     ∷ breaks 16 (In 1 TypeLink) (set (set example1 39 0xFF) 40 0xFF)
@@ -183,9 +201,10 @@ bad =
     ∷ breaks 18 (In 1 CodeRange) (set example1 41 4)
     ∷ breaks 19 (In 1 FirstMember) (set union 41 2)
     ∷ breaks 20 (In 1 CodeRange) (set example1 42 3)
-    ∷ breaks 21 (In 1 MemberList) (over (aType 22 0xFF 1 (aMember 7 0 17)))
-    ∷ breaks 22 (In 1 FirstMember) (over (aType 23 0xFF 1 (aMember 0 0 1)))
-    ∷ breaks 23 (In theHead Head) (book 1 (int32 ++ 0 ∷ []))
+    ∷ breaks 21 (In 1 MemberList) labels18
+    ∷ breaks 21 (In 1 MemberList) (over (aType 22 0xFF 1 (aMember 0 0 17)))
+    ∷ breaks 22 (In 1 FirstMember) (set labelled 23 23)
+    ∷ breaks 23 (In theHead Head) longer
     ∷ []
 
 -- a book and what is told of it
@@ -196,13 +215,13 @@ data Tells : Type 0 where
 abbrev oneField : List Tells
 oneField =
     -- bound flag: 2 of an ARRAY
-    tells (In 1 CodeRange) (set (set sequence 23 26) 26 2)
+    tells (In 1 CodeRange) (set array 26 2)
     -- a union's first: the type its own record, which is a union
     ∷ tells (In 1 TypeLink) (set union 40 1)
     -- flags 6
     ∷ tells (In 1 CodeRange) (set union 41 6)
-    -- 17 labels
-    ∷ tells (In 1 MemberList) (over (aType 23 0xFF 1 (aMember 0 0 17)))
+    -- 18 labels
+    ∷ tells (In 1 MemberList) (set labels18 23 23)
     ∷ []
 
 -- "The first broken rule in reading order is told, a record's own bytes before its members": of two neighbouring places that break rules of other
@@ -213,7 +232,7 @@ neighbours =
     tells (In theHead Head) (set (set plain 4 2) 8 15)
     -- a record's length and its kind
     ∷ tells (In 0 RecordLength) (set (set plain 8 15) 9 28)
-    -- base and bound flag, of an ARRAY
+    -- base and bound flag, of an ARRAY without a bound
     ∷ tells (In 1 CodeRange) (set (set sequence 23 26) 25 4)
     -- bound flag and bound
     ∷ tells (In 0 CodeRange) (set (set plain 12 2) 16 1)
@@ -223,15 +242,15 @@ neighbours =
     ∷ tells (In 0 TypeLink) (set (set plain 18 0xFE) 20 1)
     -- member count and a member that does not fit
     ∷ tells (In 0 MemberList) (set plain 20 1)
-    -- kind and, after other places, a member that does not fit
-    ∷ tells (In 1 CodeRange) (set (over (aType 22 0xFF 1 (take 8 (aMember 7 0 0)))) 23 28)
+    -- kind and, some places on, a member that does not fit
+    ∷ tells (In 1 CodeRange) (set (set example1 23 28) 34 2)
     -- a record's own bytes and its members
     ∷ tells (In 1 CodeRange) (set (set example1 24 3) 40 1)
-    -- a member that does not fit and its id: two members of id 7, the second with a label that is not there
-    ∷ tells (In 1 RecordLength) (over (aType 22 0xFF 2 (aMember 7 0 0 ++ take 9 (aMember 7 0 1))))
-    ∷ tells (In 1 RecordLength) (over (aType 23 0xFF 1 (take 9 (aMember 1 0 1))))
+    -- a member that does not fit and its id: two of id 7, the second with a label that is not there; a union's first
+    ∷ tells (In 1 RecordLength) (set (set twoMembers 47 7) 52 1)
+    ∷ tells (In 1 RecordLength) (set (set union 38 1) 43 1)
     -- id and type
-    ∷ tells (In 1 MemberList) (over (aType 22 0xFF 2 (aMember 7 0 0 ++ aMember 7 1 0)))
+    ∷ tells (In 1 MemberList) (set (set twoMembers 47 7) 49 1)
     ∷ tells (In 1 FirstMember) (set (set union 38 1) 40 1)
     -- type and flags
     ∷ tells (In 1 TypeLink) (set (set example1 40 1) 41 4)
@@ -239,19 +258,18 @@ neighbours =
     -- flags and try-construct
     ∷ tells (In 1 FirstMember) (set (set union 41 2) 42 3)
     -- try-construct and label count
-    ∷ tells (In 1 CodeRange) (set (over (aType 22 0xFF 1 (aMember 7 0 17))) 42 3)
+    ∷ tells (In 1 CodeRange) (set labels18 42 3)
     -- label count and the next member, which does not fit
-    ∷ tells (In 1 MemberList) (over (aType 22 0xFF 2 (aMember 7 0 17)))
-    ∷ tells (In 1 FirstMember) (over (aType 23 0xFF 2 (aMember 0 0 1)))
-    -- label count and a byte left in the record
-    ∷ tells (In 1 MemberList) (over (aType 22 0xFF 1 (aMember 7 0 17 ++ 0 ∷ [])))
-    -- a byte left in a record and the next record's length, then its kind
-    ∷ tells (In 0 RecordLength) (book 2 (aType 4 0xFF 0 (0 ∷ []) ++ set int32 1 13))
-    ∷ tells (In 0 RecordLength) (book 2 (aType 4 0xFF 0 (0 ∷ []) ++ set int32 2 28))
+    ∷ tells (In 1 MemberList) (set labels18 34 2)
+    ∷ tells (In 1 FirstMember) (set (set labelled 23 23) 34 2)
+    -- label count and bytes left in the record
+    ∷ tells (In 1 MemberList) (set labels18 43 17)
+    -- a byte left in a record and the next record's length
+    ∷ tells (In 0 RecordLength) (set example1 8 15)
     -- a record and the next
     ∷ tells (In 0 MemberList) (set (set example1 9 21) 24 3)
     -- the last record and a byte left in the book
-    ∷ tells (In 0 CodeRange) (set (book 1 (int32 ++ 0 ∷ [])) 9 28)
+    ∷ tells (In 0 CodeRange) (set longer 9 28)
     ∷ []
 
 -- books that end within the head, and where a record should begin
