@@ -164,15 +164,22 @@ fn member_neighbours() {
     changed(b"label count, bytes left", &LABELS18, 43, 17);
 }
 
-// Example 1's book cut after each byte: as it is, and with its length put right.
-fn cuts() {
+// Example 1's book cut after n bytes: as it is, and with its length put right.
+fn cut(n: usize) {
+    if 44 <= n {
+        return;
+    }
     let whole = EXAMPLE1;
+    show(b"example 1 cut", &whole[0..n]);
+    let mut b = EXAMPLE1;
+    b[3] = n as u8;
+    show(b"example 1 cut, its length right", &b[0..n]);
+}
+
+fn cuts() {
     let mut n = 0;
     while n < 44 {
-        let mut b = EXAMPLE1;
-        b[3] = n as u8;
-        show(b"example 1 cut", &whole[0..n]);
-        show(b"example 1 cut, its length right", &b[0..n]);
+        cut(n);
         n += 1;
     }
 }
