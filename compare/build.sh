@@ -44,7 +44,7 @@ fn main() {
     io::print_decimal(1, sinotayam::c::sinotayam_read(b"", 0, b"", 0, &mut table));
 }
 END
-    printf 8 >"$repo/crates/feed/stdout"
+    printf 17 >"$repo/crates/feed/stdout"
     kit_that_keeps_modules "$repo/kit"
     (cd "$repo" && RATTLE_HOME=$repo/kit rt try feed) >"$2" 2>&1 || { tail -n 20 "$2"; exit 1; }
     module_text "$repo/kit/module-O3.bc" "$repo/m.ll"

@@ -2,8 +2,9 @@
 // the kit's own clang compiles it where the machine has no other one for x86-64.
 //   in   1, length u32, book           the book of the messages that follow
 //        2, root u16, standard u8, words u32, length u32, message
-//   out  for each message: answer u64 (rows * 256 + number), marks u8, and the rows if the number is 0
-//        marks: 1 the table is zero after the last row; 2 the prepared reading gives the same answer and the same table
+//   out  for each message: answer u64 (rows * 256 + number), marks u8, the book's fault u32 (record * 256 + number), and the rows if the number is 0
+//        marks: 1 the table is zero after the last row; 2 the prepared reading gives the same answer and the same table, or, where the book is
+//        not right, preparing gives the book's number and the prepared reading 8; and the fault has that number
 // All numbers little-endian.
 typedef unsigned char u8;
 typedef unsigned short u16;
@@ -18,12 +19,18 @@ void exit(int);
 // Functions of an object that nothing proved: there a slice is the address of a pair.
 struct slice { const void *at; u64 length; };
 u64 unproved_read(struct slice *, u16, struct slice *, u8, struct slice *);
+u32 unproved_fault(struct slice *);
 u8 unproved_prepare(struct slice *, struct slice *);
 u64 unproved_read_prepared(struct slice *, struct slice *, u16, struct slice *, u8, struct slice *);
 static u64 sinotayam_read(const u8 *b, u64 bl, u16 root, const u8 *m, u64 ml, u8 standard, u64 *t, u64 tl)
 {
     struct slice x = { b, bl }, y = { m, ml }, z = { t, tl };
     return unproved_read(&x, root, &y, standard, &z);
+}
+static u32 sinotayam_fault(const u8 *b, u64 bl)
+{
+    struct slice x = { b, bl };
+    return unproved_fault(&x);
 }
 static u8 sinotayam_prepare(const u8 *b, u64 bl, u32 *i, u64 il)
 {
@@ -37,6 +44,7 @@ static u64 sinotayam_read_prepared(const u8 *b, u64 bl, const u32 *i, u64 il, u1
 }
 #else
 u64 sinotayam_read(const u8 *, u64, u16, const u8 *, u64, u8, u64 *, u64);
+u32 sinotayam_fault(const u8 *, u64);
 u8 sinotayam_prepare(const u8 *, u64, u32 *, u64);
 u64 sinotayam_read_prepared(const u8 *, u64, const u32 *, u64, u16, const u8 *, u64, u8, u64 *, u64);
 #endif
@@ -112,13 +120,15 @@ static void one(u64 book_length)
             marks &= ~1;
     u8 prepared = sinotayam_prepare(book, book_length, index, 65);
     u64 second = sinotayam_read_prepared(book, book_length, index, 65, root, message, length, standard, again, words);
-    if (second != answer || (prepared != 0) != ((answer & 255) == 8))
+    u32 fault = sinotayam_fault(book, book_length);
+    if (prepared != (fault & 255) || second != (prepared ? 8 : answer) || (prepared && answer != prepared))
         marks &= ~2;
     for (u64 i = 0; i < words; i++)
         if (table[i] != again[i])
             marks &= ~2;
     put(&answer, 8);
     put(&marks, 1);
+    put(&fault, 4);
     if ((answer & 255) == 0)
         put(table, rows * ROW <= (u64)words ? rows * ROW * 8 : 0);
 }

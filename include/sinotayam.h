@@ -17,7 +17,7 @@ enum {
     SINOTAYAM_NOT_ENOUGH_DATA = 1,
     SINOTAYAM_INVALID_DATA = 2,
     SINOTAYAM_INVALID_TYPE = 3,
-    SINOTAYAM_BAD_BOOK = 8,
+    SINOTAYAM_NOT_PREPARED = 8,
     SINOTAYAM_BAD_ROOT = 9,
     SINOTAYAM_TOO_LONG = 10,
     SINOTAYAM_UNSUPPORTED = 11,
@@ -25,7 +25,15 @@ enum {
     SINOTAYAM_NO_ROOM = 13,
     SINOTAYAM_NO_DISCRIMINATOR = 14,
     SINOTAYAM_NOT_TEXT = 15,
-    SINOTAYAM_UNFIT = 16
+    SINOTAYAM_UNFIT = 16,
+    /* what is wrong with a book */
+    SINOTAYAM_BOOK_HEAD = 17,
+    SINOTAYAM_BOOK_RECORD_LENGTH = 18,
+    SINOTAYAM_BOOK_CODE_RANGE = 19,
+    SINOTAYAM_BOOK_TYPE_LINK = 20,
+    SINOTAYAM_BOOK_BOUND = 21,
+    SINOTAYAM_BOOK_MEMBER_LIST = 22,
+    SINOTAYAM_BOOK_FIRST_MEMBER = 23
 };
 
 /* How XCDR2 is read, which each reading call is told: as the crate dust_dds does, or as DDS-XTypes 1.3 does (any other number is that too).
@@ -100,6 +108,13 @@ enum {
 /* Reads a message of the book's type `root`, in the mode that `standard` says. Returns rows * 256 + number. The table holds the rows and then zeros; on a refusal it is all zero. */
 uint64_t sinotayam_read(const uint8_t *book, size_t book_len, uint16_t root, const uint8_t *message, size_t message_len, uint8_t standard, uint64_t *table, size_t words);
 
+/* The record that stands for the book's head. */
+#define SINOTAYAM_HEAD 65535
+
+/* What is wrong with a book: record * 256 + number, and 0 for a right one. The number is 17 to 23, the record is counted from 0, or SINOTAYAM_HEAD.
+   The first broken rule in reading order is told: a record's own bytes before its members, bytes left after the last record last. */
+uint32_t sinotayam_fault(const uint8_t *book, size_t book_len);
+
 /* Which encodings a type is used with, which the type check is told: any, or XCDR2 only (any other number is that too). */
 enum {
     SINOTAYAM_ANY_ENCODING = 0,
@@ -107,14 +122,14 @@ enum {
 };
 
 /* The type check: 0 where every reading of the book's type `root`, in either mode, gives 0, 1, 2, 10, 13 or 14, and no member's header is taken for
-   another's; 8 for a book that breaks a rule, 9 for a root that is none of its types, else 16. Asked of the ids in each structure or union that is
+   another's; 17 to 23 for a book that breaks a rule, 9 for a root that is none of its types, else 16. Asked of the ids in each structure or union that is
    Mutable or has an optional member: for any encoding, that their low 16 bits differ and are at most 16,383; for XCDR2 only, that each is at
    most 268,435,455. */
 uint8_t sinotayam_check(const uint8_t *book, size_t book_len, uint16_t root, uint8_t only_xcdr2);
 
-/* Judges a book once, and fills an index for sinotayam_read_prepared. Returns 0; 8 for a book that breaks a rule; 13 where the index has fewer
-   words than the book has types and one more. After 8 and 13 the index holds no types, and every reading with it is 8, also where sinotayam_read
-   would read: use an index only after 0. */
+/* Judges a book once, and fills an index for sinotayam_read_prepared. Returns 0; 17 to 23 for a book that breaks a rule; 13 where the
+   index has fewer words than the book has types and one more. After any number but 0 the index holds no types, and every reading with it is 8, also
+   where sinotayam_read would read: use an index only after 0. */
 uint8_t sinotayam_prepare(const uint8_t *book, size_t book_len, uint32_t *index, size_t index_len);
 
 /* The same as sinotayam_read, with an index for which sinotayam_prepare returned 0 on the same book: the book is not judged again. */

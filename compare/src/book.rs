@@ -87,91 +87,93 @@ pub fn encode(types: &[Type]) -> Vec<u8> {
     all
 }
 
-/// The types of a good book; nothing where a rule is broken.
-pub fn decode(book: &[u8]) -> Option<Vec<Type>> {
-    let mut b = Bytes(book);
-    let count = {
-        let length = b.number(4)?;
-        let version = b.number(1)?;
-        let count = b.number(2)? as usize;
-        if length as usize != book.len() || book.len() > 65536 || version != 1 || !(1..=64).contains(&count) {
-            return None;
-        }
-        count
-    };
+/// What is wrong with a book, as order 2 of document 02 tells it: the record's number, and 17 to 23.
+pub type Fault = (u16, u8);
+
+const HEAD: Fault = (65535, 17);
+
+fn number(b: &[u8]) -> u32 {
+    b.iter().fold(0, |x, b| x << 8 | *b as u32)
+}
+
+/// The types of a good book; else the first broken rule in reading order.
+pub fn decode(book: &[u8]) -> Result<Vec<Type>, Fault> {
+    if book.len() < 7 || book.len() > 65536 || number(&book[..4]) as usize != book.len() || book[4] != 1 {
+        return Err(HEAD);
+    }
+    let count = number(&book[5..7]) as u16;
+    if !(1..=64).contains(&count) {
+        return Err(HEAD);
+    }
+    let mut rest = &book[7..];
     let mut types: Vec<Type> = Vec::new();
-    for _ in 0..count {
-        let before = b.0.len();
-        let length = b.number(2)? as usize;
-        let t = record(&mut b)?;
-        if before - b.0.len() != length || !good(&types, &t) {
-            return None;
-        }
+    for k in 0..count {
+        let (t, after) = record(&types, rest).map_err(|why| (k, why))?;
         types.push(t);
+        rest = after;
     }
-    b.0.is_empty().then_some(types)
-}
-
-struct Bytes<'a>(&'a [u8]);
-
-impl Bytes<'_> {
-    fn number(&mut self, n: usize) -> Option<u32> {
-        let x = self.0.get(..n)?.iter().fold(0, |x, b| x << 8 | *b as u32);
-        self.0 = &self.0[n..];
-        Some(x)
+    if rest.is_empty() {
+        Ok(types)
+    } else {
+        Err(HEAD)
     }
 }
 
-fn record(b: &mut Bytes) -> Option<Type> {
-    let kind = b.number(1)? as u8;
-    let ext = b.number(1)? as u8;
-    let base = b.number(1)? as u8;
-    let flag = b.number(1)?;
-    let bound = b.number(4)?;
-    let element = b.number(2)? as u16;
-    let count = b.number(2)?;
-    if kind > 27 || ext > 2 || base > 27 || flag > 1 || flag == 0 && bound != 0 || count > 64 {
-        return None;
+/// Passes over a rule that is kept.
+fn rule(kept: bool, why: u8) -> Result<(), u8> {
+    if kept {
+        Ok(())
+    } else {
+        Err(why)
     }
-    let members = (0..count).map(|_| member(b)).collect::<Option<Vec<Member>>>()?;
-    Some(Type { kind, ext, base, bound: (flag == 1).then_some(bound), element, members })
 }
 
-fn member(b: &mut Bytes) -> Option<Member> {
-    let id = b.number(4)?;
-    let ty = b.number(2)? as u16;
-    let flags = b.number(1)? as u8;
-    let construct = b.number(1)? as u8;
-    let count = b.number(1)?;
-    if flags > 3 || construct > 2 || count > 16 {
-        return None;
+/// The record that comes after these, and the bytes after it. Field by field, then member by member.
+fn record<'a>(earlier: &[Type], rest: &'a [u8]) -> Result<(Type, &'a [u8]), u8> {
+    let k = earlier.len() as u16;
+    rule(rest.len() >= 2, 18)?;
+    let length = number(&rest[..2]) as usize;
+    rule((14..=rest.len()).contains(&length), 18)?;
+    let (b, after) = rest.split_at(length);
+    let (kind, ext, base, flag) = (b[2], b[3], b[4], b[5]);
+    let (bound, element, count) = (number(&b[6..10]), number(&b[10..12]) as u16, number(&b[12..14]));
+    rule(kind <= 27, 19)?;
+    rule(ext <= 2, 19)?;
+    rule(base <= 27 && (base == 0 || kind == 21), 19)?;
+    rule(flag <= 1, 19)?;
+    rule(kind != 26 || flag == 1, 21)?;
+    rule(flag == 1 || bound == 0, 21)?;
+    rule(if matches!(kind, 25 | 26) { element < k } else { element == NONE }, 20)?;
+    rule(count <= 64, 22)?;
+    rule(count == 0 || matches!(kind, 21..=23), 22)?;
+    rule(count > 0 || !matches!(kind, 21 | 23), 22)?;
+    let mut t = Type { kind, ext, base, bound: (flag == 1).then_some(bound), element, members: Vec::new() };
+    let mut left = &b[14..];
+    for _ in 0..count {
+        let (m, behind) = member(earlier, &t, left)?;
+        t.members.push(m);
+        left = behind;
     }
-    let labels = (0..count).map(|_| b.number(4).map(|x| x as i32)).collect::<Option<Vec<i32>>>()?;
-    Some(Member { id, ty, flags, construct, labels })
+    rule(left.is_empty(), 18)?;
+    Ok((t, after))
 }
 
-/// The rules that ask more than one field, of the record that comes after these.
-fn good(earlier: &[Type], t: &Type) -> bool {
-    let named = |x: u16| (x as usize) < earlier.len();
-    let list = matches!(t.kind, 25 | 26);
-    let element = if list { named(t.element) } else { t.element == NONE };
-    let typed = |m: &Member| if t.kind == 21 { m.ty == NONE } else { named(m.ty) };
-    let differ = t.members.iter().enumerate().all(|(i, m)| t.members[..i].iter().all(|o| o.id != m.id));
-    let first = match t.members.first() {
-        Some(m) => {
-            t.kind != 23
-                || m.id == 0
-                    && m.labels.is_empty()
-                    && m.flags & DEFAULT == 0
-                    && earlier.get(m.ty as usize).is_some_and(|t| matches!(t.kind, 1..=15 | 19 | 21))
-        }
-        None => !matches!(t.kind, 21 | 23),
-    };
-    element
-        && (t.kind != 26 || t.bound.is_some())
-        && (t.kind == 21 || t.base == 0)
-        && (t.opens() || t.members.is_empty())
-        && t.members.iter().all(typed)
-        && differ
-        && first
+/// The member that comes after those of a type, and the record's bytes after it. That it fits is asked before its fields.
+fn member<'a>(earlier: &[Type], t: &Type, b: &'a [u8]) -> Result<(Member, &'a [u8]), u8> {
+    rule(b.len() >= 9, 18)?;
+    let size = 9 + 4 * b[8] as usize;
+    rule(b.len() >= size, 18)?;
+    let (id, ty, flags, construct, labels) = (number(&b[..4]), number(&b[4..6]) as u16, b[6], b[7], b[8]);
+    let first = t.kind == 23 && t.members.is_empty();
+    rule(t.members.iter().all(|m| m.id != id), 22)?;
+    rule(!first || id == 0, 23)?;
+    rule(if t.kind == 21 { ty == NONE } else { (ty as usize) < earlier.len() }, 20)?;
+    rule(!first || matches!(earlier[ty as usize].kind, 1..=15 | 19 | 21), 23)?;
+    rule(flags <= 3, 19)?;
+    rule(!first || flags & DEFAULT == 0, 23)?;
+    rule(construct <= 2, 19)?;
+    rule(labels <= 16, 22)?;
+    rule(!first || labels == 0, 23)?;
+    let labels = b[9..size].chunks(4).map(|l| number(l) as i32).collect();
+    Ok((Member { id, ty, flags, construct, labels }, &b[size..]))
 }

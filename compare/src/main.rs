@@ -13,6 +13,7 @@ mod agree;
 mod book;
 mod books;
 mod broken;
+mod changes;
 mod encode;
 mod evolve;
 mod gen;
@@ -49,8 +50,8 @@ pub fn by_rules(case: &Case) -> Reading {
 
 /// A case's reading by the rules, with a table of so many rows.
 pub fn by_rules_in(case: &Case, rows: usize) -> Reading {
-    if case.types.is_empty() {
-        return rules::refused(8);
+    if let Err((_, why)) = book::decode(&case.book) {
+        return rules::refused(why);
     }
     rules::read(&case.types, case.root, &case.message, case.mode, rows)
 }
@@ -83,6 +84,10 @@ pub fn differs(case: &Case, rules: &Reading, got: &Reply) -> Option<String> {
     if !got.prepared {
         return Some("the prepared reading gives something else".into());
     }
+    let fault = book::decode(&case.book).err();
+    if fault != got.fault {
+        return Some(format!("of the book the rules tell {fault:?}, the port {:?}", got.fault));
+    }
     if rules.number != got.number || rules.rows.len() as u64 != got.count {
         return Some(format!("the rules give {} with {} rows, the port {} with {}", rules.number, rules.rows.len(), got.number, got.count));
     }
@@ -105,7 +110,7 @@ pub fn differs(case: &Case, rules: &Reading, got: &Reply) -> Option<String> {
 /// Whether the crate has a say: it knows no book, root, long message or table, and XCDR2 as the standard reads it neither.
 pub fn asks_the_crate(case: &Case, number: u8) -> bool {
     let xcdr2 = case.message.get(1).is_some_and(|id| *id > 3);
-    !(matches!(number, 8..=10 | 13) || case.mode == Mode::Standard && xcdr2)
+    !(matches!(number, 9 | 10 | 13 | 17..=23) || case.mode == Mode::Standard && xcdr2)
 }
 
 pub fn ask(port: &Port, case: &Case, words: usize) -> Reply {
@@ -176,6 +181,7 @@ impl Run {
     fn all(&mut self) {
         self.written();
         self.real();
+        self.changes();
         let mut at = 0;
         while at < self.total {
             let n = (self.total - at).min(5000);
@@ -211,6 +217,19 @@ impl Run {
         let rows: usize = cases.iter().map(|c| by_rules(c).rows.len()).sum();
         println!("{} messages of real writers: {rows} rows, each held to the bytes at its place", cases.len());
         self.window(cases, 0);
+    }
+
+    /// The README's worked book with one byte changed: what is told of it, and the reading.
+    fn changes(&mut self) {
+        let mut cases = changes::cases(self.mode);
+        let (all, told) = (cases.len(), cases.iter().filter(|c| c.types.is_empty()).count());
+        let before = self.differences;
+        while !cases.is_empty() {
+            let rest = cases.split_off(cases.len().min(5000));
+            self.window(cases, 0);
+            cases = rest;
+        }
+        println!("{all} changes of one byte of the README's book, {told} of them told: {} differences", self.differences - before);
     }
 
     fn window(&mut self, cases: Vec<Case>, seed: u64) {

@@ -1,4 +1,5 @@
 // The port's program, run over a file of cases.
+use crate::book::Fault;
 use crate::rules::{Mode, Row};
 use std::io::Write;
 use std::process::{Command, Stdio};
@@ -12,6 +13,8 @@ pub struct Reply {
     pub cleared: bool,
     /// The prepared reading gave the same.
     pub prepared: bool,
+    /// What is wrong with the book.
+    pub fault: Option<Fault>,
 }
 
 pub struct Port {
@@ -72,7 +75,9 @@ fn word(rest: &mut &[u8]) -> u64 {
 fn reply(rest: &mut &[u8]) -> Reply {
     let answer = word(rest);
     let marks = take(rest, 1)[0];
+    let told = u32::from_le_bytes(take(rest, 4).try_into().unwrap());
+    let fault = (told != 0).then_some(((told >> 8) as u16, told as u8));
     let (number, count) = (answer as u8, answer >> 8);
     let rows = if number == 0 { (0..count).map(|_| std::array::from_fn(|_| word(rest))).collect() } else { Vec::new() };
-    Reply { number, rows, count, cleared: marks & 1 != 0, prepared: marks & 2 != 0 }
+    Reply { number, rows, count, cleared: marks & 1 != 0, prepared: marks & 2 != 0, fault }
 }

@@ -138,7 +138,7 @@ impl Tally {
         if r.number == 0 && r.needed > r.rows.len() {
             self.add(c.mode, "reached needs more rows than it keeps".into());
         }
-        if c.message.len() >= 4 && c.message[0] == 0 && !matches!(r.number, 8..=10) {
+        if c.message.len() >= 4 && c.message[0] == 0 && !matches!(r.number, 9 | 10 | 17..=23) {
             self.add(c.mode, format!("identifier 00{:02x}", c.message[1]));
         }
         for i in 0..r.rows.len() {
@@ -179,7 +179,7 @@ impl Tally {
     }
 
     fn wanted(mode: Mode) -> Vec<String> {
-        let mut all: Vec<String> = [0, 1, 2, 3, 8, 9, 10, 11, 12, 13, 14].iter().map(|n| format!("answer {n:>2}")).collect();
+        let mut all: Vec<String> = [0, 1, 2, 3, 9, 10, 11, 12, 13, 14, 17, 18, 19, 20, 21, 22, 23].iter().map(|n| format!("answer {n:>2}")).collect();
         all.extend(WAYS.iter().map(|w| format!("message {w}")));
         let marks: &[&str] = match mode {
             Mode::Crate => &CRATE_MARKS,

@@ -13,6 +13,7 @@ mod ffi {
             table: *mut u64,
             words: usize,
         ) -> u64;
+        pub fn sinotayam_fault(book: *const u8, book_len: usize) -> u32;
         pub fn sinotayam_check(book: *const u8, book_len: usize, root: u16, only_xcdr2: u8) -> u8;
         pub fn sinotayam_prepare(book: *const u8, book_len: usize, index: *mut u32, index_len: usize) -> u8;
         pub fn sinotayam_read_prepared(
@@ -43,6 +44,9 @@ pub const ROW: usize = 5;
 /// The words in which the index of any book has room.
 const INDEX: usize = 65;
 
+/// The record that stands for a book's head.
+const HEAD: u16 = 65535;
+
 /// How XCDR2 is read. XCDR1 is read alike in both.
 #[derive(Clone, Copy, Debug, PartialEq, Eq)]
 #[repr(u8)]
@@ -70,7 +74,7 @@ pub enum Refusal {
     NotEnoughData = 1,
     InvalidData = 2,
     InvalidType = 3,
-    BadBook = 8,
+    NotPrepared = 8,
     BadRoot = 9,
     TooLong = 10,
     Unsupported = 11,
@@ -79,6 +83,13 @@ pub enum Refusal {
     NoDiscriminator = 14,
     NotText = 15,
     Unfit = 16,
+    BookHead = 17,
+    BookRecordLength = 18,
+    BookCodeRange = 19,
+    BookTypeLink = 20,
+    BookBound = 21,
+    BookMemberList = 22,
+    BookFirstMember = 23,
 }
 
 impl Refusal {
@@ -86,8 +97,9 @@ impl Refusal {
     pub fn of_number(number: u8) -> Option<Refusal> {
         use Refusal::*;
         [
-            NotEnoughData, InvalidData, InvalidType, BadBook, BadRoot, TooLong,
+            NotEnoughData, InvalidData, InvalidType, NotPrepared, BadRoot, TooLong,
             Unsupported, TooDeep, NoRoom, NoDiscriminator, NotText, Unfit,
+            BookHead, BookRecordLength, BookCodeRange, BookTypeLink, BookBound, BookMemberList, BookFirstMember,
         ]
         .into_iter()
         .find(|k| *k as u8 == number)
@@ -101,6 +113,69 @@ impl std::fmt::Display for Refusal {
 }
 
 impl std::error::Error for Refusal {}
+
+/// Why a book is not right, by the numbers 17 to 23.
+#[derive(Clone, Copy, Debug, PartialEq, Eq)]
+#[repr(u8)]
+pub enum Reason {
+    Head = 17,
+    RecordLength = 18,
+    CodeRange = 19,
+    TypeLink = 20,
+    Bound = 21,
+    MemberList = 22,
+    FirstMember = 23,
+}
+
+impl Reason {
+    fn of_number(number: u8) -> Option<Reason> {
+        use Reason::*;
+        [Head, RecordLength, CodeRange, TypeLink, Bound, MemberList, FirstMember].into_iter().find(|r| *r as u8 == number)
+    }
+
+    /// What may be broken, in words: the reason, and the rules that it stands for.
+    fn words(self) -> &'static str {
+        match self {
+            Reason::Head => "head: its length is not the book's or over 65,536, its version is not 1, its types are not 1 to 64, or bytes are left after the last record",
+            Reason::RecordLength => "record length: below 14, past the book's end, or its members do not fill it",
+            Reason::CodeRange => "code out of range: its kind, extensibility, enum base or bound flag, or a member's flags or try-construct",
+            Reason::TypeLink => "type link: its element, or a member's type, is not below its own record, or there is one where none may be",
+            Reason::Bound => "bound: an array has none, or there is one without its flag",
+            Reason::MemberList => "member list: too many members or none, members where its kind has none, two of one id, or over 16 labels",
+            Reason::FirstMember => "union's first member: its id is not 0, its type is no discriminator's, or it is a default or has a label",
+        }
+    }
+}
+
+/// What is wrong with a book: the first broken rule in reading order.
+#[derive(Clone, Copy, Debug, PartialEq, Eq)]
+pub struct Fault {
+    /// The record's number; none for the book's head, and for bytes after the last record.
+    pub record: Option<u16>,
+    pub reason: Reason,
+}
+
+impl std::fmt::Display for Fault {
+    fn fmt(&self, f: &mut std::fmt::Formatter<'_>) -> std::fmt::Result {
+        match self.record {
+            Some(record) => write!(f, "record {record}: {}", self.reason.words()),
+            None => write!(f, "the book's {}", self.reason.words()),
+        }
+    }
+}
+
+impl std::error::Error for Fault {}
+
+/// What is wrong with a book.
+pub fn fault(book: &[u8]) -> Result<(), Fault> {
+    // The pointer and the length are those of a live slice, and nothing is written.
+    let word = unsafe { ffi::sinotayam_fault(book.as_ptr(), book.len()) };
+    let record = (word >> 8) as u16;
+    match Reason::of_number(word as u8) {
+        Some(reason) => Err(Fault { record: (record != HEAD).then_some(record), reason }),
+        None => Ok(()),
+    }
+}
 
 /// One value: document 01's row, and its place.
 #[derive(Clone, Copy, Debug, PartialEq, Eq)]

@@ -1,5 +1,5 @@
 //! Bench examples of document 01, through the safe calls.
-use sinotayam::{check, data, read, Encodings, Mode, Prepared, Refusal, Row};
+use sinotayam::{check, data, fault, read, Encodings, Fault, Mode, Prepared, Reason, Refusal, Row};
 
 const BOOK: &[u8] = b"\x00\x00\x00\x2c\x01\x00\x02\x00\x0e\x04\x00\x00\x00\x00\x00\x00\x00\xff\xff\x00\x00\
     \x00\x17\x16\x00\x00\x00\x00\x00\x00\x00\xff\xff\x00\x01\x00\x00\x00\x07\x00\x00\x00\x01\x00";
@@ -75,14 +75,32 @@ fn example_10_in_both_modes() {
 fn refusals_in_order() {
     let mut table = [7u64; 9];
     let mut of = |book: &[u8], root, message: &[u8]| read(book, root, message, Mode::Crate, &mut table).unwrap_err();
-    assert_eq!(of(&BOOK[1..], 2, &[]), Refusal::BadBook);
-    assert_eq!(of(&[], 0, MESSAGE), Refusal::BadBook);
+    assert_eq!(of(&BOOK[1..], 2, &[]), Refusal::BookHead);
+    assert_eq!(of(&[], 0, MESSAGE), Refusal::BookHead);
     assert_eq!(of(BOOK, 2, &[0; 65537]), Refusal::BadRoot);
     assert_eq!(of(BOOK, 1, &[0; 65537]), Refusal::TooLong);
     assert_eq!(of(BOOK, 1, &MESSAGE[..3]), Refusal::NotEnoughData);
     assert_eq!(of(BOOK, 1, b"\x00\x04\x00\x00"), Refusal::InvalidData);
     assert_eq!(of(BOOK, 0, MESSAGE), Refusal::InvalidType);
     assert_eq!(table, [0; 9]);
+}
+
+#[test]
+fn what_is_wrong_with_a_book() {
+    let told = |at: usize, x: u8| {
+        let mut book = LIST_BOOK.to_vec();
+        book[at] = x;
+        fault(&book).unwrap_err()
+    };
+    assert_eq!(fault(LIST_BOOK), Ok(()));
+    assert_eq!(told(4, 2), Fault { record: None, reason: Reason::Head });
+    // the list's element is the list itself
+    let f = told(32, 1);
+    assert_eq!(f, Fault { record: Some(1), reason: Reason::TypeLink });
+    assert!(f.to_string().starts_with("record 1: type link: its element, or a member's type, is not below its own record"));
+    assert_eq!(told(37, 28), Fault { record: Some(2), reason: Reason::CodeRange });
+    assert_eq!(told(57, 1), Fault { record: Some(2), reason: Reason::RecordLength });
+    assert_eq!(fault(&[]).unwrap_err().to_string().split(':').next(), Some("the book's head"));
 }
 
 #[test]
@@ -93,7 +111,7 @@ fn prepared_reads_the_same() {
         assert_eq!(book.read(1, MESSAGE, Mode::Crate, &mut table).unwrap().iter().collect::<Vec<_>>(), rows());
     }
     assert_eq!(book.read(2, MESSAGE, Mode::Crate, &mut table).unwrap_err(), Refusal::BadRoot);
-    assert_eq!(Prepared::new(&BOOK[1..]).unwrap_err(), Refusal::BadBook);
+    assert_eq!(Prepared::new(&BOOK[1..]).unwrap_err(), Refusal::BookHead);
 }
 
 #[test]
@@ -106,7 +124,7 @@ fn the_type_check_of_example_1() {
     assert_eq!(check(BOOK, 1, Encodings::Any), Ok(()));
     assert_eq!(check(BOOK, 0, Encodings::Any), Err(Refusal::Unfit));
     assert_eq!(check(BOOK, 2, Encodings::Any), Err(Refusal::BadRoot));
-    assert_eq!(check(&[], 0, Encodings::Any), Err(Refusal::BadBook));
+    assert_eq!(check(&[], 0, Encodings::Any), Err(Refusal::BookHead));
 }
 
 // An INT32, and a Mutable structure of two with the ids 5 and 65541.

@@ -282,11 +282,33 @@ fn code(k: u8) {
     io::write_all(STDOUT_FILENO, b"\n");
 }
 
-// 8, which comes before 9: a book of version 2.
+// What is wrong with a book, as C is told it.
+fn fault(book: &[u8]) {
+    io::print_decimal(STDOUT_FILENO, sinotayam::c::sinotayam_fault(book) as u64);
+    io::write_all(STDOUT_FILENO, b"\n");
+}
+
+// A book's number comes before 9: of version 2, then with a record of kind 28. The record is told too: 65535 and 17, 1 and 19; 0 of the right book.
 fn broken() {
     let mut book = INT32;
     book[4] = 2;
-    read(b"8 before 9", &book, 2, b"\x00\x01\x00\x00\xfe\xff\xff\xff");
+    read(
+        b"17 before 9",
+        &book,
+        2,
+        b"\x00\x01\x00\x00\xfe\xff\xff\xff",
+    );
+    fault(&book);
+    book[4] = 1;
+    book[23] = 28;
+    read(
+        b"19 before 9",
+        &book,
+        2,
+        b"\x00\x01\x00\x00\xfe\xff\xff\xff",
+    );
+    fault(&book);
+    fault(&INT32);
 }
 
 // Example 1 with an index.

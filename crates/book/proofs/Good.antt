@@ -35,14 +35,6 @@ count-good b e =
     let c : within (1 ‥ 64) (typeCount b) ≡ true = kept 2 (sizeOk b) (versionOk b ∷ typeCountOk b ∷ []) (head-good b e) in
     (leb-true 1 (typeCount b) (both-first (leb 1 (typeCount b)) (leb (typeCount b) 64) c), few-types b (head-good b e))
 
--- what `judge_into` counts tells whether the book is right
-pub judge-count : (b : List ℕ) (n : ℕ) → n ≡ pick (bookOk b) (typeCount b) 0 → ltb 0 n ≡ bookOk b
-judge-count b n e = rw e (by-book (bookOk b) refl)
-  where
-    by-book : (t : Bool) → bookOk b ≡ t → ltb 0 (pick t (typeCount b) 0) ≡ t
-    by-book true h = lt-ltb 0 (typeCount b) (omega (arith, count-good b h .0))
-    by-book false h = refl
-
 length-from : (n : ℕ) (s : List ℕ) → length (typesFrom n s) ≡ n
 unfolding typesFrom
 length-from zero s = refl

@@ -10,7 +10,7 @@ use lib.Seq.{drop-drop}
 use borrow.Author.Tests.{le-leb, lt-ltb, leb-true, eqb-true, not-false}
 use Rattle.book.specs.Types.{BookType, bounded, byte, pair, quad, memberOf, pastMember, membersOf, typeOf}
 use Rattle.book.specs.Places.{Bare, from, memberAt, typeAt, earlier, Below}
-use Rattle.book.specs.Rules.{memberSize, filled, recordLengthOk, codesOk, kindOk, extensibilityOk, baseOk, boundFlagOk, boundsOk, arrayBoundOk, boundOk, elementOk, countOk, memberCountOk, memberKindOk, someMemberOk, ownOk, idOk, linkOk, flagsOk, constructOk, labelCountOk, firstOfUnion, memberOk, membersOk, typeOk, recordOk}
+use Rattle.book.specs.Rules.{memberSize, filled, insideOk, ownSizeOk, recordLengthOk, codesOk, kindOk, extensibilityOk, baseOk, boundFlagOk, boundsOk, arrayBoundOk, boundOk, elementOk, countOk, memberCountOk, memberKindOk, someMemberOk, ownOk, idOk, linkOk, flagsOk, constructOk, labelCountOk, firstOfUnion, memberOk, membersOk, typeOk, recordOk}
 use Rattle.book.proofs.Places.{member-count-is, label-count-is, length-members}
 use Rattle.book.proofs.Judging.{plain-own, link-some, member-other, id-above, below-more, pastMembers, one-more, allOk}
 
@@ -25,7 +25,7 @@ module _ (s : List ℕ) (size kind extensibility a c m : ℕ) (e₀ : size ≡ p
   none = sym e₁₂ ∙ eqb-true m 0 z
 
   plain-length : 14 ≤ length s → size ≡ 14 → recordLengthOk s ≡ true
-  unfolding recordLengthOk filled
+  unfolding recordLengthOk insideOk ownSizeOk filled
   plain-length h f =
       let g : pair s 0 ≡ 14 = sym e₀ ∙ f in
       rw (no-members s none, g, le-leb 14 (length s) h)
@@ -102,7 +102,7 @@ module _ (b : List ℕ) (at k n size l : ℕ) (e : size ≡ pair (from b at) 0) 
 
   pub rise-end : (p left room top : ℕ) → Rising b at k n (size - 14) p left room top → left ≤ 0 → true ≡ ownOk k (typeAt b at) → eqb room 0 ≡ true
       → (types : List BookType) → true ≡ recordOk types k (from b at)
-  unfolding recordOk typeOk recordLengthOk filled membersOk membersOf
+  unfolding recordOk typeOk recordLengthOk insideOk ownSizeOk filled membersOk membersOf
   rise-end p left room top x o own z types =
       let j : left ≡ 0 = omega arith in
       let f : filled (typeAt b at .members) (size - 14) ≡ true = sym (rw j at (x .fill)) ∙ z in

@@ -2,3 +2,4 @@ pub mod Types
 pub mod Places
 pub mod Labels
 pub mod Rules
+pub mod Fault

@@ -48,10 +48,17 @@ unfoldable pub filled : List Member → ℕ → Bool
 filled [] room = eqb room 0
 filled (m ∷ ms) room = both (leb (memberSize m) room) (filled ms (room - memberSize m))
 
--- "A record: its whole length u16 (these two bytes counted)": it lies in the book, holds the 14 bytes of its own, and its members fill the rest
+-- "A record: its whole length u16 (these two bytes counted)": it lies in the book
+unfoldable pub insideOk : List ℕ → Bool
+insideOk s = leb (pair s 0) (length s)
+
+-- it holds the 14 bytes of its own
+unfoldable pub ownSizeOk : List ℕ → Bool
+ownSizeOk s = leb 14 (pair s 0)
+
+-- and its members fill the rest
 unfoldable pub recordLengthOk : List ℕ → Bool
-recordLengthOk s =
-    both (leb (pair s 0) (length s)) (both (leb 14 (pair s 0)) (filled (typeOf s .members) (pair s 0 - 14)))
+recordLengthOk s = both (insideOk s) (both (ownSizeOk s) (filled (typeOf s .members) (pair s 0 - 14)))
 
 -- A RECORD'S OWN BYTES: CODES
 -- "Kinds: 0 NONE, .., 27 MAP. A code or flag not listed breaks the book."

@@ -1,15 +1,16 @@
-// Whether a book is right: document 01's rules of a book, in reading order. Counts are tested before the loops that they bound.
+// What is wrong with a book: document 01's rules of a book in reading order, the first that is broken told. Counts are tested before the
+// loops that they bound. Quick tests only accept.
 ghost use mathlib.Core.Path.{_≡_};
 ghost use mathlib.Core.Bool.{true, _&&_};
 ghost use mathlib.Core.List.{List, []};
 ghost use Prim.Native.Nat.{ℕ, _+_, _<_, _≤_};
 ghost use lib.ListN.{length};
 ghost use Rattle.ground.specs.Choice.{pick, every};
-ghost use Rattle.book.specs.Types.{BookType, typeCount};
+ghost use Rattle.book.specs.Types.{BookType};
 ghost use Rattle.book.specs.Places.{from, Bare, memberAt, typeAt, listed, earlier, Below, indexed, typesBy};
-ghost use Rattle.book.specs.Rules.{headOk, filled, recordLengthOk, codesOk, boundsOk, elementOk, countOk, ownOk};
-ghost use Rattle.book.specs.Rules.{otherId, linkOk, firstIdOk, firstKindOk, firstDefaultOk, firstLabelOk};
-ghost use Rattle.book.specs.Rules.{flagsOk, constructOk, labelCountOk, memberOk, membersOk, recordOk, recordsOk, bookOk};
+ghost use Rattle.book.specs.Rules.{headOk, codesOk, boundsOk, elementOk, countOk, ownOk, otherId, linkOk, firstOfUnion, firstKindOk};
+ghost use Rattle.book.specs.Rules.{flagsOk, constructOk, labelCountOk, recordOk, bookOk};
+ghost use Rattle.book.specs.Fault.{ownFault, memberFault, membersFault, recordFault, recordsFault, faultOf};
 use crate::bytes::byte_at;
 use crate::bytes::byte_there;
 use crate::bytes::left_at;
@@ -18,6 +19,9 @@ use crate::bytes::pair_there;
 use crate::bytes::quad_at;
 use crate::bytes::quad_there;
 use crate::bytes::skip;
+use crate::fault::Fault;
+use crate::fault::HEAD;
+use crate::fault::Reason;
 use crate::index::index;
 use crate::index::place;
 use crate::member;
@@ -42,37 +46,6 @@ fn head_ok(b: &[u8]) -> bool
     ((size == b.len()) & (b.len() <= 65536))
         & (byte_at(b, 0, 4) == 1)
         & ground::in_range(count as u64, 1, 64)
-}
-
-// Whether the members take `room` bytes, and exactly these.
-fn members_fill(b: &[u8], ms: Run, room: usize) -> bool
-    ensures { λ r. ⌜ r ≡ filled (listed (now (b .entry)) ms) room ⌝ }
-{
-    let mut rest = ms;
-    let mut left = room;
-    while 0 < rest.left {
-        let p = rest.at;
-        let size = 9 + 4 * member::label_count(b, p);
-        if left < size {
-            return false;
-        }
-        left -= size;
-        rest = member::after(b, rest);
-    }
-    left == 0
-}
-
-fn record_length_ok(b: &[u8], at: usize) -> bool
-    ensures { λ r. ⌜ r ≡ recordLengthOk (from (now (b .entry)) at) ⌝ }
-{
-    let size = pair_at(b, at, 0);
-    if left_at(b, at) < size {
-        return false;
-    }
-    if size < 14 {
-        return false;
-    }
-    members_fill(b, member::members(b, at), size - 14)
 }
 
 fn codes_ok(b: &[u8], at: usize) -> bool
@@ -114,11 +87,23 @@ fn count_ok(b: &[u8], at: usize) -> bool
         & (!((kind == ENUM) | (kind == UNION)) | (1 <= n))
 }
 
-// The own bytes of record k.
-fn own_ok(b: &[u8], at: usize, k: usize) -> bool
-    ensures { λ r. ⌜ r ≡ ownOk k (typeAt (now (b .entry)) at) ⌝ }
+// The own bytes of record k. Fields that stand next to each other and have one reason are tested together.
+fn own_fault(b: &[u8], at: usize, k: usize) -> Fault
+    ensures { λ r. ⌜ r ≡ ownFault k (typeAt (now (b .entry)) at) ⌝ }
 {
-    codes_ok(b, at) & bound_ok(b, at) & element_ok(b, at, k) & count_ok(b, at)
+    if !codes_ok(b, at) {
+        return Fault::In(k, Reason::CodeRange);
+    }
+    if !bound_ok(b, at) {
+        return Fault::In(k, Reason::Bound);
+    }
+    if !element_ok(b, at, k) {
+        return Fault::In(k, Reason::TypeLink);
+    }
+    if !count_ok(b, at) {
+        return Fault::In(k, Reason::MemberList);
+    }
+    Fault::Nothing
 }
 
 fn other_id(b: &[u8], p: usize, id: u32) -> bool
@@ -168,20 +153,27 @@ fn link_ok(b: &[u8], at: usize, k: usize, p: usize) -> bool
     link < k
 }
 
-// What is asked of the first member of a union alone.
-fn first_ok(b: &[u8], index: &[u32], p: usize, id: u32) -> bool
-    requires { ⌜ id ≡ memberAt (now b) p .id ⌝ }
-    ensures { λ r. ⌜ r ≡ (firstIdOk true (memberAt (now (b .entry)) p) && firstKindOk (typesBy (now (b .entry)) (now (index .entry))) true (memberAt (now (b .entry)) p) && firstDefaultOk true (memberAt (now (b .entry)) p) && firstLabelOk true (memberAt (now (b .entry)) p)) ⌝ }
+// Whether a member with `done` before it is the first of a union.
+fn first_of_union(b: &[u8], at: usize, done: usize) -> bool
+    ensures { λ r. ⌜ r ≡ firstOfUnion (typeAt (now (b .entry)) at) (earlier (now (b .entry)) at done) ⌝ }
 {
-    let kind = types::kind(b, place(b, index, member::type_index(b, p)));
-    (id == 0)
-        & (ground::in_range(kind as u64, 1, 15) | (kind == BITMASK) | (kind == ENUM))
-        & !member::is_default(b, p)
-        & (member::label_count(b, p) == 0)
+    (types::kind(b, at) == UNION) & (done == 0)
 }
 
-// The member at p, of the type at `at`, record k, with `done` members before it, whose ids are below `top`; `id` is its own.
-fn member_ok(
+// Whether the member at p, if it is the first of a union, has a type that a discriminator may have.
+fn first_kind_ok(b: &[u8], index: &[u32], first: bool, p: usize) -> bool
+    ensures { λ r. ⌜ r ≡ firstKindOk (typesBy (now (b .entry)) (now (index .entry))) «first» (memberAt (now (b .entry)) p) ⌝ }
+{
+    if !first {
+        return true;
+    }
+    let kind = types::kind(b, place(b, index, member::type_index(b, p)));
+    ground::in_range(kind as u64, 1, 15) | (kind == BITMASK) | (kind == ENUM)
+}
+
+// The member at p, of the type at `at`, record k, with `done` members before it, whose ids are below `top`; `id` is its own. What is asked of a
+// union's first alone comes after what is asked of the same field in every member.
+fn member_fault(
     b: &[u8],
     index: &[u32],
     at: usize,
@@ -190,19 +182,40 @@ fn member_ok(
     top: u64,
     p: usize,
     id: u32,
-) -> bool
+) -> Fault
     requires { ⌜ Below top (earlier (now b) at done) × (id ≡ memberAt (now b) p .id) ⌝ }
-    ensures { λ r. ⌜ r ≡ memberOk (typesBy (now (b .entry)) (now (index .entry))) k (typeAt (now (b .entry)) at) (earlier (now (b .entry)) at done) (memberAt (now (b .entry)) p) ⌝ }
+    ensures { λ r. ⌜ r ≡ memberFault (typesBy (now (b .entry)) (now (index .entry))) k (typeAt (now (b .entry)) at) (earlier (now (b .entry)) at done) (memberAt (now (b .entry)) p) ⌝ }
 {
-    let all = id_differs(b, at, done, top, id)
-        & link_ok(b, at, k, p)
-        & (member::flags(b, p) <= 3)
-        & (member::construct(b, p) <= 2)
-        & (member::label_count(b, p) <= 16);
-    if (types::kind(b, at) == UNION) & (done == 0) {
-        return all & first_ok(b, index, p, id);
+    let first = first_of_union(b, at, done);
+    if !id_differs(b, at, done, top, id) {
+        return Fault::In(k, Reason::MemberList);
     }
-    all
+    if first & (id != 0) {
+        return Fault::In(k, Reason::FirstMember);
+    }
+    if !link_ok(b, at, k, p) {
+        return Fault::In(k, Reason::TypeLink);
+    }
+    if !first_kind_ok(b, index, first, p) {
+        return Fault::In(k, Reason::FirstMember);
+    }
+    if 3 < member::flags(b, p) {
+        return Fault::In(k, Reason::CodeRange);
+    }
+    if first & member::is_default(b, p) {
+        return Fault::In(k, Reason::FirstMember);
+    }
+    if 2 < member::construct(b, p) {
+        return Fault::In(k, Reason::CodeRange);
+    }
+    let labels = member::label_count(b, p);
+    if 16 < labels {
+        return Fault::In(k, Reason::MemberList);
+    }
+    if first & (labels != 0) {
+        return Fault::In(k, Reason::FirstMember);
+    }
+    Fault::Nothing
 }
 
 // A number above the id, and no less than `top`.
@@ -213,29 +226,35 @@ fn above(top: u64, id: u32) -> u64
     if next < top { top } else { next }
 }
 
-// Ids mostly rise from member to member, and are then compared with the greatest before them alone. That a member's 9 bytes are there is
-// known, and asked once for the compiler, which then leaves it out for each field.
-fn members_ok(b: &[u8], index: &[u32], at: usize, k: usize) -> bool
-    requires { ⌜ recordLengthOk (from (now b) at) ≡ true ⌝ }
-    ensures { λ r. ⌜ r ≡ membersOk (typesBy (now (b .entry)) (now (index .entry))) k (typeAt (now (b .entry)) at) [] (typeAt (now (b .entry)) at .members) ⌝ }
+// The members of the type at `at`, record k, which leaves them `room` bytes. Ids mostly rise from member to member, and are then compared
+// with the greatest before them alone.
+fn members_fault(b: &[u8], index: &[u32], at: usize, k: usize, room: usize) -> Fault
+    ensures { λ r. ⌜ r ≡ membersFault (typesBy (now (b .entry)) (now (index .entry))) k (typeAt (now (b .entry)) at) [] (typeAt (now (b .entry)) at .members) room ⌝ }
 {
     let mut rest = member::members(b, at);
+    let mut left = room;
     let mut done = 0;
     let mut top = 0;
     while 0 < rest.left {
         let p = rest.at;
-        if left_at(b, p) < 9 {
-            return false;
+        let size = 9 + 4 * member::label_count(b, p);
+        if left < size {
+            return Fault::In(k, Reason::RecordLength);
         }
         let id = member::id(b, p);
-        if !member_ok(b, index, at, k, done, top, p, id) {
-            return false;
+        let found = member_fault(b, index, at, k, done, top, p, id);
+        if !found.is_right() {
+            return found;
         }
         top = above(top, id);
         rest = member::after(b, rest);
+        left -= size;
         done += 1;
     }
-    true
+    if 0 < left {
+        return Fault::In(k, Reason::RecordLength);
+    }
+    Fault::Nothing
 }
 
 // Whether the member at p, whose 9 bytes are there, keeps the rules of every member but that of its id. Its type, record k, is no enum.
@@ -347,59 +366,72 @@ fn is_plain(b: &[u8], at: usize) -> bool
 }
 
 // Record k, at a place.
-fn record_ok(b: &[u8], index: &[u32], at: usize, k: usize) -> bool
-    ensures { λ r. ⌜ r ≡ recordOk (typesBy (now (b .entry)) (now (index .entry))) k (from (now (b .entry)) at) ⌝ }
+fn record_fault(b: &[u8], index: &[u32], at: usize, k: usize) -> Fault
+    ensures { λ r. ⌜ r ≡ recordFault (typesBy (now (b .entry)) (now (index .entry))) k (from (now (b .entry)) at) ⌝ }
 {
     if is_plain(b, at) {
-        return true;
+        return Fault::Nothing;
     }
     if is_structure(b, at, k) {
-        return true;
+        return Fault::Nothing;
     }
-    if !own_ok(b, at, k) {
-        return false;
+    let size = pair_at(b, at, 0);
+    if left_at(b, at) < size {
+        return Fault::In(k, Reason::RecordLength);
     }
-    if !record_length_ok(b, at) {
-        return false;
+    if size < 14 {
+        return Fault::In(k, Reason::RecordLength);
     }
-    members_ok(b, index, at, k)
+    let own = own_fault(b, at, k);
+    if !own.is_right() {
+        return own;
+    }
+    members_fault(b, index, at, k, size - 14)
 }
 
 // The records of the index, one after the other from byte 7 on, and nothing after them.
-fn records_ok(b: &[u8], index: &[u32]) -> bool
-    ensures { λ r. ⌜ r ≡ recordsOk (typesBy (now (b .entry)) (now (index .entry))) 0 (length (now (index .entry))) (from (now (b .entry)) 7) ⌝ }
+fn records_fault(b: &[u8], index: &[u32]) -> Fault
+    ensures { λ r. ⌜ r ≡ recordsFault (typesBy (now (b .entry)) (now (index .entry))) 0 (length (now (index .entry))) (from (now (b .entry)) 7) ⌝ }
 {
     let mut k = 0;
     let mut p = 7;
     while k < index.len() {
-        if !record_ok(b, index, p, k) {
-            return false;
+        let found = record_fault(b, index, p, k);
+        if !found.is_right() {
+            return found;
         }
         p = skip(b, p, pair_at(b, p, 0));
         k += 1;
     }
-    left_at(b, p) == 0
+    if 0 < left_at(b, p) {
+        return Fault::In(HEAD, Reason::Head);
+    }
+    Fault::Nothing
 }
 
-// How many types a right book has, and 0 of any other. Leaves the places of the types, which it judges by, as `index` does; where the
-// head is not right it writes none.
-pub fn judge_into(b: &[u8], lent: &mut [u32]) -> usize
+// What is wrong with a book. Leaves the places of the types, which it judges by, as `index` does; where the head is not right it writes none.
+pub fn judge_into(b: &[u8], lent: &mut [u32]) -> Fault
     requires { ⌜ 64 ≤ length (now lent) ⌝ }
-    ensures { λ r. ⌜ (r ≡ pick (bookOk (now (b .entry))) (typeCount (now (b .entry))) 0) × (now (lent .exit) ≡ pick (headOk (now (b .entry))) (indexed (now (b .entry)) (now (lent .entry))) (now (lent .entry))) ⌝ }
+    ensures { λ r. ⌜ (r ≡ faultOf (now (b .entry))) × (now (lent .exit) ≡ pick (headOk (now (b .entry))) (indexed (now (b .entry)) (now (lent .entry))) (now (lent .entry))) ⌝ }
 {
     if !head_ok(b) {
-        return 0;
+        return Fault::In(HEAD, Reason::Head);
     }
     let n = index(b, lent);
-    if !records_ok(b, &lent[0..n]) {
-        return 0;
-    }
-    n
+    records_fault(b, &lent[0..n])
 }
 
+// What is wrong with a book: the first broken rule in reading order.
+pub fn fault(b: &[u8]) -> Fault
+    ensures { λ r. ⌜ r ≡ faultOf (now (b .entry)) ⌝ }
+{
+    let mut places = [0u32; 64];
+    judge_into(b, &mut places)
+}
+
+// Whether a book is right.
 pub fn judge(b: &[u8]) -> bool
     ensures { λ r. ⌜ r ≡ bookOk (now (b .entry)) ⌝ }
 {
-    let mut places = [0u32; 64];
-    0 < judge_into(b, &mut places)
+    fault(b).is_right()
 }

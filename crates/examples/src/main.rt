@@ -1,13 +1,17 @@
-// Document 01's rules of a book, run: example 1's book, for each rule the smallest books that break it alone, and the books at the
-// bounds. Each line is a book's name and what `judge` says of it.
+// Document 01's rules of a book, run, with what order 2 tells of one that is broken: example 1's book, for each rule the smallest books that break it
+// alone, for each field that breaks two rules and each two neighbouring places one, example 1's book cut after each byte, and the books at the
+// bounds. Each line is a book's name, what is told of it (a record's number, 65535 for the head, and the reason's), and its bytes where they are few.
 mod books;
 
 ghost use mathlib.Core.Path.{_≡_};
 ghost use Prim.Native.Nat.{_+_, _*_};
 use book::bytes::skip;
+use book::fault::Fault;
+use books::ARRAY;
 use books::ENUM;
 use books::EXAMPLE1;
 use books::LABELLED;
+use books::LABELS18;
 use books::LONGER;
 use books::PAIR;
 use books::PLAIN;
@@ -22,6 +26,10 @@ fn main() {
     links();
     members();
     first_of_union();
+    one_field();
+    own_neighbours();
+    member_neighbours();
+    cuts();
     right();
     allowed_types();
     allowed_members();
@@ -46,7 +54,11 @@ fn head() {
         b"\x00\x00\x00\x14\x01\x00\x01\x00\x0d\x04\x00\x00\x00\x00\x00\x00\x00\xff\xff\x00",
     );
     changed(b"a byte after the members", &LONGER, 8, 15);
-    show(b"a byte after the last record", &LONGER);
+    changed(b"second member not there", &EXAMPLE1, 34, 2);
+    changed(b"label not there", &EXAMPLE1, 43, 1);
+    show(b"no record", b"\x00\x00\x00\x07\x01\x00\x01");
+    show(b"half a length", b"\x00\x00\x00\x08\x01\x00\x01\x0e");
+    changed(b"a byte after the last record", &LONGER, 3, 22);
 }
 
 fn own_bytes() {
@@ -70,6 +82,7 @@ fn links() {
         32,
         0xff,
     );
+    changed_twice(b"array without an element", &ARRAY, 31, 0xff, 32, 0xff);
     changed(b"member its own record", &EXAMPLE1, 40, 1);
     changed_twice(
         b"structure's member without a type",
@@ -89,6 +102,7 @@ fn members() {
     changed(b"two members of one id", &PAIR, 47, 7);
     changed(b"flags 4", &EXAMPLE1, 41, 4);
     changed(b"try-construct 3", &EXAMPLE1, 42, 3);
+    show(b"18 labels", &LABELS18);
 }
 
 fn first_of_union() {
@@ -98,11 +112,84 @@ fn first_of_union() {
     changed(b"union's first with a label", &LABELLED, 23, 23);
 }
 
+// One field that breaks two rules: the earlier reason is told.
+fn one_field() {
+    changed(b"array's bound flag 2", &ARRAY, 26, 2);
+    changed(b"union's first its own record", &UNION, 40, 1);
+    changed(b"union's first with flags 6", &UNION, 41, 6);
+    changed(b"union's first with 18 labels", &LABELS18, 23, 23);
+}
+
+// Two neighbouring places that break rules: the earlier is told.
+fn own_neighbours() {
+    changed_twice(b"head, length", &PLAIN, 4, 2, 8, 15);
+    changed_twice(b"length, kind", &PLAIN, 8, 15, 9, 28);
+    changed_twice(b"base, bound flag", &SEQUENCE, 23, 26, 25, 4);
+    changed_twice(b"bound flag, bound", &PLAIN, 12, 2, 16, 1);
+    changed_twice(b"bound, element", &PLAIN, 16, 1, 18, 0xfe);
+    changed_twice(b"element, member count", &PLAIN, 18, 0xfe, 20, 1);
+    changed(b"member count, a member's place", &PLAIN, 20, 1);
+    changed_twice(b"kind, a member's place", &EXAMPLE1, 23, 28, 34, 2);
+    changed_twice(b"own bytes, a member's type", &EXAMPLE1, 24, 3, 40, 1);
+    changed(b"a byte left, the next length", &EXAMPLE1, 8, 15);
+    changed_twice(b"a record, the next", &EXAMPLE1, 9, 21, 24, 3);
+    changed(b"the last record, a byte left", &LONGER, 9, 28);
+}
+
+fn member_neighbours() {
+    changed_twice(b"label not there, id", &PAIR, 47, 7, 52, 1);
+    changed_twice(b"label not there, union's first id", &UNION, 38, 1, 43, 1);
+    changed_twice(b"id, type", &PAIR, 47, 7, 49, 1);
+    changed_twice(b"union's first id, type", &UNION, 38, 1, 40, 1);
+    changed_twice(b"type, flags", &EXAMPLE1, 40, 1, 41, 4);
+    changed_twice(b"union's first kind, flags", &UNION, 9, 16, 41, 4);
+    changed_twice(
+        b"union's first default, try-construct",
+        &UNION,
+        41,
+        2,
+        42,
+        3,
+    );
+    changed(b"try-construct, label count", &LABELS18, 42, 3);
+    changed(b"label count, the next member", &LABELS18, 34, 2);
+    changed_twice(
+        b"union's first label, the next member",
+        &LABELLED,
+        23,
+        23,
+        34,
+        2,
+    );
+    changed(b"label count, bytes left", &LABELS18, 43, 17);
+}
+
+// Example 1's book cut after n bytes: as it is, and with its length put right.
+fn cut(n: usize) {
+    if 44 <= n {
+        return;
+    }
+    let whole = EXAMPLE1;
+    show(b"example 1 cut", &whole[0..n]);
+    let mut b = EXAMPLE1;
+    b[3] = n as u8;
+    show(b"example 1 cut, its length right", &b[0..n]);
+}
+
+fn cuts() {
+    let mut n = 0;
+    while n < 44 {
+        cut(n);
+        n += 1;
+    }
+}
+
 // Right books: example 1's, and the smallest.
 fn right() {
     show(b"example 1", &EXAMPLE1);
     show(b"INT32", &PLAIN);
     show(b"sequence", &SEQUENCE);
+    show(b"array of bound 0", &ARRAY);
     show(b"enum", &ENUM);
     show(b"union of its discriminator", &UNION);
     show(b"two members", &PAIR);
@@ -111,7 +198,6 @@ fn right() {
 
 // What no rule names.
 fn allowed_types() {
-    changed_twice(b"array of bound 0", &SEQUENCE, 23, 26, 26, 1);
     changed_twice(b"INT32 with a bound", &PLAIN, 12, 1, 16, 5);
     changed(b"Mutable INT32", &PLAIN, 10, 2);
     changed(b"enum of base 27", &ENUM, 11, 27);
@@ -137,13 +223,52 @@ fn bounds() {
     structures(b"65537 bytes", 13, 64, 1002, 16);
 }
 
-// Writes the name of a book and what `judge` says of it.
+// Writes the name of a book, what is told of it, and its bytes.
 fn show(name: &[u8], b: &[u8]) {
     io::write_all(STDOUT_FILENO, name);
     if book::judge::judge(b) {
-        io::write_all(STDOUT_FILENO, b" right\n");
+        io::write_all(STDOUT_FILENO, b": right");
     } else {
-        io::write_all(STDOUT_FILENO, b" wrong\n");
+        show_fault(book::judge::fault(b));
+    }
+    if b.len() <= FEW {
+        io::write_all(STDOUT_FILENO, b" ");
+        show_bytes(b);
+    }
+    io::write_all(STDOUT_FILENO, b"\n");
+}
+
+fn show_fault(found: Fault) {
+    match found {
+        Fault::Nothing => {
+            io::write_all(STDOUT_FILENO, b": nothing");
+        }
+        Fault::In(k, why) => {
+            io::write_all(STDOUT_FILENO, b": record ");
+            io::print_decimal(STDOUT_FILENO, k as u64);
+            io::write_all(STDOUT_FILENO, b" number ");
+            io::print_decimal(STDOUT_FILENO, ground::wide(why.number()));
+        }
+    }
+}
+
+// A book of no more bytes is shown.
+const FEW: usize = 128;
+
+const DIGITS: [u8; 16] = *b"0123456789abcdef";
+
+fn digit(x: u8) -> u8 {
+    let i = (x % 16) as usize;
+    DIGITS[i]
+}
+
+fn show_bytes(b: &[u8]) {
+    let mut i = 0;
+    while i < b.len() {
+        let x = b[i];
+        let two = [digit(x / 16), digit(x)];
+        io::write_all(STDOUT_FILENO, &two);
+        i += 1;
     }
 }
 
@@ -163,8 +288,8 @@ fn copy(b: &mut [u8], s: &[u8]) {
 
 // The book s with x at i and y at j: the books that differ from a right one in a byte or two.
 fn changed_twice(name: &[u8], s: &[u8], i: usize, x: u8, j: usize, y: u8) {
-    let mut b = [0u8; 64];
-    if s.len() <= 64 {
+    let mut b = [0u8; FEW];
+    if s.len() <= FEW {
         copy(&mut b, s);
         put(&mut b, i, x);
         put(&mut b, j, y);

@@ -12,7 +12,10 @@ use Rattle.kinds.specs.Kinds.{opens}
 use Rattle.book.specs.Types.{BookType, typeCount, typesOf, typeNo}
 use Rattle.book.specs.Places.{typeAt, typesBy, PlaceOf, indexCount, indexed}
 use Rattle.book.specs.Rules.{headOk, bookOk}
+use Rattle.book.specs.declared.fault.Fault.{Fault}
+use Rattle.book.specs.Fault.{isRight, faultNumber, faultOf}
 use Rattle.book.proofs.Good.{head-good, count-good, index-good}
+use Rattle.book.proofs.Faults.{book-right}
 use Rattle.fit.specs.Fit.{Clause}
 use Rattle.fit.specs.Ids.{clausesFor}
 use Rattle.fit.specs.Check.{checkOf}
@@ -32,59 +35,46 @@ module _ (clauses : List Clause) (b index : List ℕ) (root p kind : ℕ) (o : B
       let kind : opens (typeNo (typesBy b index) root .kind) ≡ true = rw (← at .is, ← is, ← opened) (not-false o h) in
       rw (kind, own)
 
--- the judge counts 64 types at most
-pub judge-few : (b : List ℕ) (n : ℕ) → n ≡ pick (bookOk b) (typeCount b) 0 → n ≤ 64
-judge-few b n count = by-book (bookOk b) refl
-  where
-    by-book : (good : Bool) → bookOk b ≡ good → n ≤ 64
-    by-book true e = let c : n ≡ typeCount b = rw e at count in omega (arith, count-good b e .1)
-    by-book false e = let z : n ≡ 0 = rw e at count in omega arith
+-- a book of which nothing is told has 64 types at most
+pub judge-few : (b : List ℕ) (f : Fault) → f ≡ faultOf b → (t : Bool) → t ≡ isRight f → not t ≡ false → (n : ℕ) → n ≡ typeCount b → n ≤ 64
+judge-few b f found t right z n counted =
+    let good : bookOk b ≡ true = sym (book-right b) ∙ (rw (← found, ← right) (not-false t z)) in
+    omega (arith, count-good b good .1)
 
--- "Otherwise 8, 9, then 16.", by what the judge counts: no types of a book that breaks a rule
-module _ (b : List ℕ) (root : ℕ) (onlyXcdr2 : Bool) (n : ℕ) (count : n ≡ pick (bookOk b) (typeCount b) 0) where
-  judged : (n ≡ 0 → ⊥) → bookOk b ≡ true
-  judged some = by-book (bookOk b) refl
-    where
-      by-book : (good : Bool) → bookOk b ≡ good → good ≡ true
-      by-book true e = refl
-      by-book false e = let z : n ≡ 0 = rw e at count in absurd (some z)
+-- "Otherwise 8, 9, then 16.", by what the judge found: of a book that breaks a rule, its number
+module _ (b : List ℕ) (root : ℕ) (onlyXcdr2 : Bool) (f : Fault) (found : f ≡ faultOf b) (t : Bool) (right : t ≡ isRight f) where
+  judged : bookOk b ≡ t
+  judged = sym (book-right b) ∙ (rw (← found, ← right))
 
-  refused : n ≡ 0 → bookOk b ≡ false
-  refused z = by-book (bookOk b) refl
-    where
-      by-book : (good : Bool) → bookOk b ≡ good → good ≡ false
-      by-book true e = let c : n ≡ typeCount b = rw e at count in absurd (omega (arith, count-good b e .0))
-      by-book false e = refl
-
-  pub check-book : n ≡ 0 → 8 ≡ checkOf b root onlyXcdr2
+  pub check-book : (r : ℕ) → not t ≡ true → r ≡ faultNumber f → r ≡ checkOf b root onlyXcdr2
   unfolding checkOf
-  check-book z = rw (refused z)
+  check-book r z e = rw (judged, not-true t z, ← found) e
 
-  module _ (some : n ≡ 0 → ⊥) where
-    counted : n ≡ typeCount b
-    counted = rw (judged some) at count
+  module _ (z : not t ≡ false) (n : ℕ) (counted : n ≡ typeCount b) where
+    good : bookOk b ≡ true
+    good = judged ∙ not-false t z
 
     pub check-root : n ≤ root → 9 ≡ checkOf b root onlyXcdr2
     unfolding checkOf
-    check-root h = rw (judged some, ← counted, le-ltb root n h)
+    check-root h = rw (good, ← counted, le-ltb root n h)
 
     pub root-small : root < n → root < 64
-    root-small h = omega (arith, counted, count-good b (judged some) .1)
+    root-small h = omega (arith, judge-few b f found t right z n counted)
 
     -- the types of the book are those that its whole index finds
     module _ (low : root < n) (l u : List ℕ) (long : length l ≡ 64) (written : u ≡ pick (headOk b) (indexed b l) l)
         (r : Bool) (is : r ≡ fits (clausesFor onlyXcdr2) (typesBy b (take (n - 0) u)) root) where
       same : r ≡ fits (clausesFor onlyXcdr2) (typesOf b) root
       same =
-          let m : n - 0 ≡ indexCount b (length l) = omega (arith, counted, count-good b (judged some) .1) in
-          let w : u ≡ indexed b l = rw (head-good b (judged some)) at written in
-          let e : typesBy b (take (n - 0) u) ≡ typesOf b = rw (m, w) (index-good b l (judged some) (omega arith)) in
+          let m : n - 0 ≡ indexCount b (length l) = omega (arith, counted, judge-few b f found t right z n counted) in
+          let w : u ≡ indexed b l = rw (head-good b good) at written in
+          let e : typesBy b (take (n - 0) u) ≡ typesOf b = rw (m, w) (index-good b l good (omega arith)) in
           is ∙ ap (λ (types : List BookType). fits (clausesFor onlyXcdr2) types root) e
 
       pub check-fit : r ≡ true → 0 ≡ checkOf b root onlyXcdr2
       unfolding checkOf
-      check-fit h = rw (judged some, ← counted, lt-ltb root n low, ← same, h)
+      check-fit h = rw (good, ← counted, lt-ltb root n low, ← same, h)
 
       pub check-unfit : r ≡ false → 16 ≡ checkOf b root onlyXcdr2
       unfolding checkOf
-      check-unfit h = rw (judged some, ← counted, lt-ltb root n low, ← same, h)
+      check-unfit h = rw (good, ← counted, lt-ltb root n low, ← same, h)

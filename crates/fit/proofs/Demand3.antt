@@ -1,8 +1,8 @@
 -- DEMAND 3, AND THE CHECK BOTH WAYS. The statements cite only definitions of `specs/`: `checkOf` and `Checked` say what the check gives back,
 -- `reading` is the reader's written rules, `Untroubled` what is left of them.
 use Prim.Native.Nat.{ℕ}
-use mathlib.Core.Path.{_≡_, sym, _∙_}
-use mathlib.Core.Bool.{Bool, true}
+use mathlib.Core.Path.{_≡_, refl, sym, _∙_}
+use mathlib.Core.Bool.{Bool, true, false}
 use mathlib.Core.List.{List, List·Memᴰ·tail}
 use native.Mathlib.Omega.{arith}
 use lib.Dec.{ltb}
@@ -12,6 +12,10 @@ use Rattle.wire.specs.declared.settings.Settings.{Settings}
 use Rattle.wire.specs.Place.{cursorAt}
 use Rattle.book.specs.Types.{BookType, typeCount, typesOf}
 use Rattle.book.specs.Rules.{bookOk}
+use Rattle.book.specs.declared.fault.Fault.{Fault}
+use Rattle.book.specs.declared.fault.Fault.the-variants.{Nothing, In}
+use Rattle.book.specs.Fault.{faultNumber, faultOf}
+use Rattle.book.proofs.Faults.{reason-told, told-nothing}
 use Rattle.table.specs.Outcome.{Outcome, numberOf, refusalNumber, rowsOf}
 use Rattle.reader.specs.Nested.{reading}
 use Rattle.fit.specs.Fit.{checkClauses, Passes}
@@ -29,18 +33,22 @@ use Rattle.fit.proofs.Books.{links-down, right-type}
 
 -- THE CHECK'S NUMBER SAYS THIS, for any book and any root, and for both uses
 pub check-says : (book : List ℕ) (root : ℕ) (onlyXcdr2 : Bool) → Checked book root onlyXcdr2 (checkOf book root onlyXcdr2)
-unfolding checkOf
+unfolding checkOf faultNumber
 check-says book root onlyXcdr2 =
     let F : ℕ → Type 0 = Checked book root onlyXcdr2 in
     by-test F (bookOk book) (λ good.
     by-test F (ltb root (typeCount book)) (λ low.
     by-test F (fits (clausesFor onlyXcdr2) (typesOf book) root) (λ e. fit good (ltb-true root (typeCount book) low) (fits-passes (clausesFor onlyXcdr2) (typesOf book) root e)) (λ e.
     unfit good (ltb-true root (typeCount book) low) (λ p. apart (sym e ∙ passes-fits (clausesFor onlyXcdr2) (typesOf book) (links-down book good) root p))))
-    (λ out. bad-root good (ltb-false root (typeCount book) out))) (λ bad. bad-book bad)
+    (λ out. bad-root good (ltb-false root (typeCount book) out))) (λ bad. by-fault (faultOf book) refl bad)
+  where
+    by-fault : (f : Fault) → faultOf book ≡ f → bookOk book ≡ false → Checked book root onlyXcdr2 (faultNumber f)
+    by-fault Nothing e bad = absurd (apart (sym bad ∙ told-nothing book e))
+    by-fault (In k why) e bad = bad-book e
 
 pub passing : {book : List ℕ} {root n : ℕ} {onlyXcdr2 : Bool} → Checked book root onlyXcdr2 n → n ≡ 0 → (bookOk book ≡ true) × Passes (clausesFor onlyXcdr2) (typesOf book) root
 passing (fit good low p) e = (good, p)
-passing (bad-book bad) e = absurd (omega arith)
+passing (bad-book {k} {why} bad) e = absurd (omega (arith, reason-told why .low))
 passing (bad-root good out) e = absurd (omega arith)
 passing (unfit good low p) e = absurd (omega arith)
 

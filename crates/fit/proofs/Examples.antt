@@ -8,8 +8,9 @@ use lib.ListN.{length}
 use Rattle.ground.specs.Choice.{every}
 use Rattle.kinds.specs.Kinds.{opens, unsupportedMember, unsupportedElement, bitmaskStored, storedByBound}
 use Rattle.book.specs.Types.{BookType, Member, noIndex, optional, default, bounded, labelsOf, memberOf, pastMember, membersOf, typeOf, pastType, typesFrom, typesOf, noType, typeNo}
-use Rattle.book.specs.Rules.{sizeOk, versionOk, typeCountOk, headOk, filled, recordLengthOk, kindOk, extensibilityOk, baseOk, boundFlagOk, codesOk, arrayBoundOk, boundOk, elementOk, memberCountOk, memberKindOk, someMemberOk, ownOk, boundsOk, countOk}
+use Rattle.book.specs.Rules.{sizeOk, versionOk, typeCountOk, headOk, filled, insideOk, ownSizeOk, recordLengthOk, kindOk, extensibilityOk, baseOk, boundFlagOk, codesOk, arrayBoundOk, boundOk, elementOk, memberCountOk, memberKindOk, someMemberOk, ownOk, boundsOk, countOk}
 use Rattle.book.specs.Rules.{otherId, idOk, linkOk, flagsOk, constructOk, labelCountOk, firstOfUnion, firstIdOk, firstKindOk, firstDefaultOk, firstLabelOk, memberOk, membersOk, typeOk, recordOk, recordsOk, bookOk}
+use Rattle.book.specs.Fault.{reasonNumber, faultNumber, unless, _then_, headFault, faultOf}
 use Rattle.reader.specs.Nested.{isMutable, isStructure}
 use Rattle.fit.specs.Fit.{memberTypes, linksOf, memberSupported, membersSupported, elementSupported, baseSupported, chooses, firstChooses, discriminatorFits, checkClauses, meets}
 use Rattle.fit.specs.Ids.{required, hasHeaders, idFits, otherLow, lowDiffer, idsFit, clausesFor}
@@ -140,13 +141,13 @@ each-holds : every (λ b. b) examples ≡ true
 unfolding fits chainsOf chainOf withOwn longestFrom meets checkClauses memberTypes linksOf memberSupported membersSupported elementSupported baseSupported chooses firstChooses discriminatorFits opens unsupportedMember unsupportedElement bitmaskStored storedByBound bounded every typeNo noType
 each-holds = refl
 
--- ---- example 1's book, as bytes: BadBook, BadRoot, Unfit, passes
+-- ---- example 1's book, as bytes: a head fault, BadRoot, Unfit, passes
 
 abbrev book1 : List ℕ
 book1 =
     0 ∷ 0 ∷ 0 ∷ 0x2C ∷ 1 ∷ 0 ∷ 2 ∷ 0 ∷ 0x0E ∷ 4 ∷ 0 ∷ 0 ∷ 0 ∷ 0 ∷ 0 ∷ 0 ∷ 0 ∷ 0xFF ∷ 0xFF ∷ 0 ∷ 0
     ∷ 0 ∷ 0x17 ∷ 0x16 ∷ 0 ∷ 0 ∷ 0 ∷ 0 ∷ 0 ∷ 0 ∷ 0 ∷ 0xFF ∷ 0xFF ∷ 0 ∷ 1 ∷ 0 ∷ 0 ∷ 0 ∷ 7 ∷ 0 ∷ 0 ∷ 0 ∷ 1 ∷ 0 ∷ []
 
-answers : map (λ root. checkOf book1 root false) (0 ∷ 1 ∷ 2 ∷ []) ++ checkOf [] 0 false ∷ [] ≡ 16 ∷ 0 ∷ 9 ∷ 8 ∷ []
-unfolding checkOf clausesFor idsFit hasHeaders required optional isMutable isStructure fits chainsOf chainOf withOwn longestFrom meets checkClauses memberTypes linksOf memberSupported membersSupported elementSupported baseSupported chooses firstChooses discriminatorFits opens unsupportedMember unsupportedElement bitmaskStored storedByBound bounded every typeNo noType labelsOf memberOf pastMember membersOf typeOf pastType typesFrom typesOf default sizeOk versionOk typeCountOk headOk filled recordLengthOk kindOk extensibilityOk baseOk boundFlagOk codesOk arrayBoundOk boundOk boundsOk elementOk memberCountOk memberKindOk someMemberOk countOk ownOk otherId idOk linkOk flagsOk constructOk labelCountOk firstOfUnion firstIdOk firstKindOk firstDefaultOk firstLabelOk memberOk membersOk typeOk recordOk recordsOk bookOk
+answers : map (λ root. checkOf book1 root false) (0 ∷ 1 ∷ 2 ∷ []) ++ checkOf [] 0 false ∷ [] ≡ 16 ∷ 0 ∷ 9 ∷ 17 ∷ []
+unfolding checkOf clausesFor idsFit hasHeaders required optional isMutable isStructure fits chainsOf chainOf withOwn longestFrom meets checkClauses memberTypes linksOf memberSupported membersSupported elementSupported baseSupported chooses firstChooses discriminatorFits opens unsupportedMember unsupportedElement bitmaskStored storedByBound bounded every typeNo noType labelsOf memberOf pastMember membersOf typeOf pastType typesFrom typesOf default sizeOk versionOk typeCountOk headOk filled insideOk ownSizeOk recordLengthOk kindOk extensibilityOk baseOk boundFlagOk codesOk arrayBoundOk boundOk boundsOk elementOk memberCountOk memberKindOk someMemberOk countOk ownOk otherId idOk linkOk flagsOk constructOk labelCountOk firstOfUnion firstIdOk firstKindOk firstDefaultOk firstLabelOk memberOk membersOk typeOk recordOk recordsOk bookOk faultOf headFault unless _then_ faultNumber reasonNumber
 answers = refl

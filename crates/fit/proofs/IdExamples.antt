@@ -8,7 +8,7 @@ use lib.ListN.{length}
 use Rattle.ground.specs.Choice.{pick, every}
 use Rattle.kinds.specs.Kinds.{opens, unsupportedMember, unsupportedElement, bitmaskStored, storedByBound}
 use Rattle.book.specs.Types.{BookType, Member, noIndex, optional, default, bounded, labelsOf, memberOf, pastMember, membersOf, typeOf, pastType, typesFrom, typesOf, noType, typeNo}
-use Rattle.book.specs.Rules.{sizeOk, versionOk, typeCountOk, headOk, filled, recordLengthOk, kindOk, extensibilityOk, baseOk, boundFlagOk, codesOk, arrayBoundOk, boundOk, elementOk, memberCountOk, memberKindOk, someMemberOk, ownOk, boundsOk, countOk}
+use Rattle.book.specs.Rules.{sizeOk, versionOk, typeCountOk, headOk, filled, insideOk, ownSizeOk, recordLengthOk, kindOk, extensibilityOk, baseOk, boundFlagOk, codesOk, arrayBoundOk, boundOk, elementOk, memberCountOk, memberKindOk, someMemberOk, ownOk, boundsOk, countOk}
 use Rattle.book.specs.Rules.{otherId, idOk, linkOk, flagsOk, constructOk, labelCountOk, firstOfUnion, firstIdOk, firstKindOk, firstDefaultOk, firstLabelOk, memberOk, membersOk, typeOk, recordOk, recordsOk, bookOk}
 use Rattle.reader.specs.Nested.{isMutable, isStructure}
 use Rattle.fit.specs.Fit.{memberTypes, linksOf, memberSupported, membersSupported, elementSupported, baseSupported, chooses, firstChooses, discriminatorFits, checkClauses, meets}
@@ -143,5 +143,5 @@ site =
     ∷ 0 ∷ 0x20 ∷ 0x16 ∷ 2 ∷ 0 ∷ 0 ∷ 0 ∷ 0 ∷ 0 ∷ 0 ∷ 0xFF ∷ 0xFF ∷ 0 ∷ 2 ∷ 0 ∷ 0 ∷ 0 ∷ 5 ∷ 0 ∷ 0 ∷ 0 ∷ 1 ∷ 0 ∷ 0 ∷ 1 ∷ 0 ∷ 5 ∷ 0 ∷ 0 ∷ 0 ∷ 1 ∷ 0 ∷ []
 
 site-answers : checkOf site 1 any ∷ checkOf site 1 xcdr2 ∷ [] ≡ 16 ∷ 0 ∷ []
-unfolding checkOf fits chainsOf chainOf withOwn longestFrom meets clausesFor checkClauses idsFit hasHeaders required optional isMutable isStructure idFits otherLow lowDiffer memberTypes linksOf memberSupported membersSupported elementSupported baseSupported chooses firstChooses discriminatorFits opens unsupportedMember unsupportedElement bitmaskStored storedByBound bounded every typeNo noType labelsOf memberOf pastMember membersOf typeOf pastType typesFrom typesOf default sizeOk versionOk typeCountOk headOk filled recordLengthOk kindOk extensibilityOk baseOk boundFlagOk codesOk arrayBoundOk boundOk boundsOk elementOk memberCountOk memberKindOk someMemberOk countOk ownOk otherId idOk linkOk flagsOk constructOk labelCountOk firstOfUnion firstIdOk firstKindOk firstDefaultOk firstLabelOk memberOk membersOk typeOk recordOk recordsOk bookOk
+unfolding checkOf fits chainsOf chainOf withOwn longestFrom meets clausesFor checkClauses idsFit hasHeaders required optional isMutable isStructure idFits otherLow lowDiffer memberTypes linksOf memberSupported membersSupported elementSupported baseSupported chooses firstChooses discriminatorFits opens unsupportedMember unsupportedElement bitmaskStored storedByBound bounded every typeNo noType labelsOf memberOf pastMember membersOf typeOf pastType typesFrom typesOf default sizeOk versionOk typeCountOk headOk filled insideOk ownSizeOk recordLengthOk kindOk extensibilityOk baseOk boundFlagOk codesOk arrayBoundOk boundOk boundsOk elementOk memberCountOk memberKindOk someMemberOk countOk ownOk otherId idOk linkOk flagsOk constructOk labelCountOk firstOfUnion firstIdOk firstKindOk firstDefaultOk firstLabelOk memberOk membersOk typeOk recordOk recordsOk bookOk
 site-answers = refl

@@ -6,15 +6,18 @@ use mathlib.Core.List.{List}
 use lib.ListN.{getD}
 use Rattle.book.specs.Types.{BookType, typeCount, typesOf}
 use Rattle.book.specs.Rules.{bookOk}
+use Rattle.book.specs.declared.fault.Reason.{Reason}
+use Rattle.book.specs.declared.fault.Fault.the-variants.{In}
+use Rattle.book.specs.Fault.{reasonNumber, faultOf}
 use Rattle.table.specs.Outcome.{Outcome, numberOf, rowsOf}
 use Rattle.fit.specs.Fit.{Passes}
 use Rattle.fit.specs.Ids.{clausesFor}
 use Rattle.shape.specs.Shape.{Opened}
 
--- the check's number, with what it says: 0 passes, "Otherwise 8, 9, then 16."
+-- the check's number, with what it says: 0 passes, "Otherwise 8, 9, then 16."; order 2: "8 becomes 17 to 23"
 pub data Checked (book : List ℕ) (root : ℕ) (onlyXcdr2 : Bool) : ℕ → Type 0 where
   fit : bookOk book ≡ true → root < typeCount book → Passes (clausesFor onlyXcdr2) (typesOf book) root → Checked book root onlyXcdr2 0
-  bad-book : bookOk book ≡ false → Checked book root onlyXcdr2 8
+  bad-book : {k : ℕ} {why : Reason} → faultOf book ≡ In k why → Checked book root onlyXcdr2 (reasonNumber why)
   bad-root : bookOk book ≡ true → typeCount book ≤ root → Checked book root onlyXcdr2 9
   unfit : bookOk book ≡ true → root < typeCount book → (Passes (clausesFor onlyXcdr2) (typesOf book) root → ⊥) → Checked book root onlyXcdr2 16
 

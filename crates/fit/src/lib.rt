@@ -18,6 +18,7 @@ use book::member::after;
 use book::member::members;
 use book::member::type_index;
 use book::types::element;
+use book::types::type_count;
 use clauses::clauses_met;
 use kinds::names::ARRAY;
 use kinds::names::ENUM;
@@ -115,16 +116,17 @@ fn fits_by(book: &[u8], index: &[u32], root: usize, only_xcdr2: bool) -> bool
     chain(book, index, &lent[0..root], at, only_xcdr2) <= LONGEST
 }
 
-// The type check: 0 where it passes, 8 for a book that breaks a rule, 9 for a root that the book has not, and 16 for a type that is not fit: for any
+// The type check: 0 where it passes, 17 to 23 for a book that breaks a rule, 9 for a root that the book has not, and 16 for a type that is not fit: for any
 // encoding, or for XCDR2 only.
 pub fn check(book: &[u8], root: usize, only_xcdr2: bool) -> u8
     ensures { λ r. ⌜ r ≡ checkOf (now (book .entry)) root «only_xcdr2» ⌝ }
 {
     let mut places = [0u32; TYPES];
-    let n = judge_into(book, &mut places);
-    if n == 0 {
-        return 8;
+    let found = judge_into(book, &mut places);
+    if !found.is_right() {
+        return found.number();
     }
+    let n = type_count(book);
     if n <= root {
         return 9;
     }

@@ -2,7 +2,7 @@
 -- nothing.
 use Prim.Native.Nat.{ℕ, _%_, _≤_, _<_}
 use mathlib.Core.Path.{_≡_, refl, sym, ap, _∙_}
-use mathlib.Core.Bool.{Bool, true, false, not}
+use mathlib.Core.Bool.{Bool, true, false}
 use mathlib.Core.List.{List}
 use native.Mathlib.Omega.{arith}
 use lib.Dec.{eqb, leb, ltb}
@@ -12,7 +12,10 @@ use Rattle.wire.specs.declared.settings.Representation.{Representation}
 use Rattle.wire.specs.declared.settings.Representation.the-variants.{Known, Unknown}
 use Rattle.wire.specs.Identifier.{settingsOf}
 use Rattle.book.specs.Types.{BookType, typesOf}
-use Rattle.book.specs.Rules.{bookOk}
+use Rattle.book.specs.declared.fault.Fault.{Fault}
+use Rattle.book.specs.declared.fault.Fault.the-variants.{Nothing, In}
+use Rattle.book.specs.Fault.{reasonNumber, faultOf}
+use Rattle.book.proofs.Faults.{reason-told}
 use Rattle.table.specs.Rows.{capacity}
 use Rattle.table.specs.Outcome.{Outcome, read, short, refused, refusalNumber, numberOf}
 use Rattle.table.specs.declared.out.Refusal.the-variants as refusal
@@ -20,10 +23,10 @@ use Rattle.reader.specs.Nested.{reading}
 use Rattle.fit.specs.Room.{SameIfRoom, SomeRoom}
 use Rattle.fit.proofs.Bigger.{bigger-table, some-table}
 use Rattle.sinotayam.specs.declared.answer.Status.{Status}
-use Rattle.sinotayam.specs.declared.answer.Status.the-variants.{Read, NotEnoughData, InvalidData, InvalidType, BadBook, BadRoot, TooLong, Unsupported, TooDeep, NoRoom, NoDiscriminator}
+use Rattle.sinotayam.specs.declared.answer.Status.the-variants.{Read, NotEnoughData, InvalidData, InvalidType, NotPrepared, BadRoot, TooLong, Unsupported, TooDeep, NoRoom, NoDiscriminator, BadBook}
 use Rattle.sinotayam.specs.declared.answer.Answer.{Answer}
 use Rattle.sinotayam.specs.Answer.{Result, codeOf, refusedBy, resultOf, Settled, Returned}
-use Rattle.sinotayam.specs.Entry.{refusedIf, byIdentifier, messageBy, dataBy, withBook, readOf, readDataOf}
+use Rattle.sinotayam.specs.Entry.{refusedIf, byIdentifier, messageBy, dataBy, byFault, withBook, readOf, readDataOf}
 use Rattle.sinotayam.specs.Prepared.{placesIn, typesIn, withIndex, readPrepared, readDataPrepared}
 use Rattle.sinotayam.specs.Room.{Listed, Steady, SameCall, SameWord}
 use Rattle.sinotayam.proofs.Numbers.{listed-not-four}
@@ -84,13 +87,17 @@ module _ (types : List BookType) (root : ℕ) where
 -- ---- FOR EVERY BOOK, ROOT, MESSAGE AND MODE: what each reading call comes to
 
 steady-book : (book : List ℕ) (next : List BookType → ℕ → Result) → Steady (next (typesOf book)) → Steady (λ room. withBook book (λ types. next types room))
-unfolding withBook codeOf
-steady-book book next p = steady-if (not (bookOk book)) BadBook (next (typesOf book)) (steady-refused BadBook (λ e. omega arith)) p
+unfolding withBook byFault codeOf
+steady-book book next p = by-fault (faultOf book)
+  where
+    by-fault : (f : Fault) → Steady (λ room. byFault f (next (typesOf book) room))
+    by-fault Nothing = p
+    by-fault (In k why) = steady-refused (BadBook why) (λ e. omega (arith, reason-told why .low))
 
 steady-index : (book index : List ℕ) (next : List BookType → ℕ → Result) → Steady (next (typesIn book index)) → Steady (λ room. withIndex book index (λ types. next types room))
 unfolding withIndex codeOf
 steady-index book index next p =
-    steady-if (eqb (length (placesIn index)) 0) BadBook (next (typesIn book index)) (steady-refused BadBook (λ e. omega arith)) p
+    steady-if (eqb (length (placesIn index)) 0) NotPrepared (next (typesIn book index)) (steady-refused NotPrepared (λ e. omega arith)) p
 
 module _ (book : List ℕ) (root : ℕ) (mode : Mode) where
   pub read-steady : (message : List ℕ) → Steady (readOf book root message mode)

@@ -12,6 +12,7 @@ use Rattle.wire.specs.declared.settings.Mode.{Mode}
 use Rattle.wire.specs.declared.settings.Representation.{Representation}
 use Rattle.wire.specs.declared.settings.Representation.the-variants.{Known, Unknown}
 use Rattle.wire.specs.Identifier.{settingsOf}
+use Rattle.book.proofs.Faults.{reason-told, right-told}
 use Rattle.book.specs.Types.{BookType, typesOf, typeCount}
 use Rattle.book.proofs.Good.{length-types}
 use Rattle.table.specs.Rows.{capacity}
@@ -22,7 +23,7 @@ use Rattle.sinotayam.specs.declared.answer.Status.{Status}
 use Rattle.sinotayam.specs.declared.answer.Status.the-variants.{NotEnoughData, InvalidData, BadRoot, TooLong}
 use Rattle.sinotayam.specs.declared.answer.Answer.{Answer}
 use Rattle.sinotayam.specs.Answer.{Result, codeOf, refusedBy, resultOf, Settled, Returned}
-use Rattle.sinotayam.specs.Entry.{refusedIf, byIdentifier, messageBy, dataBy, withBook, readOf, readDataOf}
+use Rattle.sinotayam.specs.Entry.{refusedIf, byIdentifier, messageBy, dataBy, byFault, withBook, readOf, readDataOf}
 use Rattle.sinotayam.specs.Prepared.{prepareOf, preparedFrom, readPrepared, readDataPrepared}
 use Rattle.sinotayam.specs.Demand3.{CallNumber, of-reading, over-limit, Safe, SafeCall, SafeWord}
 use Rattle.sinotayam.proofs.Preparing.{prepared-same}
@@ -50,11 +51,11 @@ module _ (book s : List ℕ) (root : ℕ) where
 
   -- a type that the check passes is one of a good book
   taken : (next : List BookType → Result) (only : Bool) (n : ℕ) → Checked book root only n → n ≡ 0 → Safe book s root (next (typesOf book)) → Safe book s root (withBook book (λ types. refusedIf (leb (length types) root) BadRoot (next types)))
-  unfolding withBook refusedIf
+  unfolding withBook byFault refusedIf
   taken next only n (fit good low p) z safe =
       let out : leb (length (typesOf book)) root ≡ false = rw (length-types book) (lt-leb (typeCount book) root low) in
-      rw (good, out) safe
-  taken next only n (bad-book bad) z safe = absurd (omega arith)
+      rw (right-told book good, out) safe
+  taken next only n (bad-book {k} {why} bad) z safe = absurd (omega (arith, reason-told why .low))
   taken next only n (bad-root good out) z safe = absurd (omega arith)
   taken next only n (unfit good low p) z safe = absurd (omega arith)
 

@@ -7,6 +7,10 @@ use native.Mathlib.Omega.{arith}
 use Rattle.ground.specs.Choice.{pick}
 use Rattle.wire.specs.declared.settings.Mode.{Mode}
 use Rattle.book.specs.Rules.{bookOk}
+use Rattle.book.specs.declared.fault.Fault.{Fault}
+use Rattle.book.specs.declared.fault.Fault.the-variants.{Nothing, In}
+use Rattle.book.specs.Fault.{reasonNumber, faultNumber, faultOf}
+use Rattle.book.proofs.Faults.{reason-told, told-wrong, told-nothing}
 use Rattle.table.specs.Rows.{capacity}
 use Rattle.fit.specs.Check.{checkOf}
 use Rattle.fit.specs.Demand3.{Checked, fit, bad-book, bad-root, unfit}
@@ -64,7 +68,7 @@ module _ (book : List ℕ) (root : ℕ) (mode : Mode) (lent after : List ℕ) wh
 
 checked-not-four : {book : List ℕ} {root n : ℕ} {only : Bool} → Checked book root only n → n ≡ 4 → ⊥
 checked-not-four (fit good low p) e = omega arith
-checked-not-four (bad-book bad) e = omega arith
+checked-not-four (bad-book {k} {why} bad) e = omega (arith, reason-told why .low)
 checked-not-four (bad-root good out) e = omega arith
 checked-not-four (unfit good low p) e = omega arith
 
@@ -72,13 +76,18 @@ pub check-never-4 : (book : List ℕ) (root : ℕ) (only : Bool) → checkOf boo
 check-never-4 book root only = checked-not-four (check-says book root only)
 
 pub prepare-never-4 : (book lent : List ℕ) → prepareOf book lent ≡ 4 → ⊥
-unfolding prepareOf
-prepare-never-4 book lent = go (bookOk book) (hasPlaces book lent)
+unfolding prepareOf faultNumber
+prepare-never-4 book lent e = by-fault (faultOf book) refl
   where
-    go : (good room : Bool) → _≡_ {A = ℕ} (pick good (pick room 0 13) 8) 4 → ⊥
-    go true true e = omega arith
-    go true false e = omega arith
-    go false room e = omega arith
+    by-room : (room : Bool) → _≡_ {A = ℕ} (pick room 0 13) 4 → ⊥
+    by-room true h = omega arith
+    by-room false h = omega arith
+
+    by-fault : (f : Fault) → faultOf book ≡ f → ⊥
+    by-fault Nothing h = by-room (hasPlaces book lent) (rw (told-nothing book h) at e)
+    by-fault (In k why) h =
+        let z : reasonNumber why ≡ 4 = rw (told-wrong book k why h, h) at e in
+        omega (arith, reason-told why .low)
 
 span-not-four : (p : Span) → spanNumber p ≡ 4 → ⊥
 unfolding spanNumber

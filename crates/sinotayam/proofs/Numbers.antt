@@ -4,8 +4,12 @@ use mathlib.Core.Path.{_≡_, refl}
 use mathlib.Core.Bool.{true, false}
 use lib.Dec.{eqb, ltb}
 use borrow.Author.Tests.{eqb-false, ltb-true}
+use native.Mathlib.Omega.{arith}
+use Rattle.book.specs.declared.fault.Reason.{Reason}
+use Rattle.book.specs.Fault.{reasonNumber}
+use Rattle.book.proofs.Faults.{reason-told}
 use Rattle.sinotayam.specs.declared.answer.Status.{Status}
-use Rattle.sinotayam.specs.declared.answer.Status.the-variants.{Read, NotEnoughData, InvalidData, InvalidType, BadBook, BadRoot, TooLong, Unsupported, TooDeep, NoRoom, NoDiscriminator, NotText, Unfit}
+use Rattle.sinotayam.specs.declared.answer.Status.the-variants.{Read, NotEnoughData, InvalidData, InvalidType, NotPrepared, BadRoot, TooLong, Unsupported, TooDeep, NoRoom, NoDiscriminator, NotText, Unfit, BadBook}
 use Rattle.sinotayam.specs.Answer.{codeOf}
 use Rattle.sinotayam.specs.Room.{Listed}
 
@@ -23,7 +27,7 @@ status-not-four Read = by-tests 0 refl refl
 status-not-four NotEnoughData = by-tests 1 refl refl
 status-not-four InvalidData = by-tests 2 refl refl
 status-not-four InvalidType = by-tests 3 refl refl
-status-not-four BadBook = by-tests 8 refl refl
+status-not-four NotPrepared = by-tests 8 refl refl
 status-not-four BadRoot = by-tests 9 refl refl
 status-not-four TooLong = by-tests 10 refl refl
 status-not-four Unsupported = by-tests 11 refl refl
@@ -32,6 +36,12 @@ status-not-four NoRoom = by-tests 13 refl refl
 status-not-four NoDiscriminator = by-tests 14 refl refl
 status-not-four NotText = by-tests 15 refl refl
 status-not-four Unfit = by-tests 16 refl refl
+status-not-four (BadBook why) = let n = reason-told why in record { other = λ e. omega (arith, n .low); small = omega (arith, n .high) }
+
+-- the number of a bad book is its reason's
+pub code-reason : (status : Status) (why : Reason) (n : ℕ) → status ≡ BadBook why → n ≡ reasonNumber why → n ≡ codeOf status
+unfolding codeOf
+code-reason status why n e f = rw e f
 
 pub listed-not-four : {n : ℕ} → Listed n → NotFour n
 listed-not-four l = rw (← l .1) (status-not-four (l .0))

@@ -4,25 +4,33 @@ use mathlib.Core.Path.{_≡_, refl, sym, ap, _∙_}
 use mathlib.Core.List.{List}
 use lib.Dec.{eqb}
 use Rattle.ground.specs.Choice.{pick}
+use Rattle.book.specs.declared.fault.Reason.{Reason}
+use Rattle.book.specs.declared.fault.Reason.the-variants.{Head, RecordLength, CodeRange, TypeLink, Bound, MemberList, FirstMember}
+use Rattle.book.specs.Fault.{reasonNumber}
 use Rattle.sinotayam.specs.declared.answer.Status.{Status}
-use Rattle.sinotayam.specs.declared.answer.Status.the-variants.{Read, NotEnoughData, InvalidData, InvalidType, BadBook, BadRoot, TooLong, Unsupported, TooDeep, NoRoom, NoDiscriminator, NotText, Unfit}
+use Rattle.sinotayam.specs.declared.answer.Status.the-variants.{Read, NotEnoughData, InvalidData, InvalidType, NotPrepared, BadRoot, TooLong, Unsupported, TooDeep, NoRoom, NoDiscriminator, NotText, Unfit, BadBook}
 use Rattle.sinotayam.specs.declared.answer.Answer.{Answer}
 use Rattle.sinotayam.specs.Answer.{codeOf, Result, Settled}
+
+-- the reason with a number
+reasonOf : ℕ → Reason
+reasonOf k =
+    pick (eqb k 17) Head (pick (eqb k 18) RecordLength (pick (eqb k 19) CodeRange (pick (eqb k 20) TypeLink (pick (eqb k 21) Bound (pick (eqb k 22) MemberList FirstMember)))))
 
 -- the answer with a number
 answerOf : ℕ → Status
 answerOf k =
     pick (eqb k 0) Read (pick (eqb k 1) NotEnoughData (pick (eqb k 2) InvalidData (pick (eqb k 3) InvalidType
-    (pick (eqb k 8) BadBook (pick (eqb k 9) BadRoot (pick (eqb k 10) TooLong (pick (eqb k 11) Unsupported (pick (eqb k 12) TooDeep
-    (pick (eqb k 13) NoRoom (pick (eqb k 14) NoDiscriminator (pick (eqb k 15) NotText Unfit)))))))))))
+    (pick (eqb k 8) NotPrepared (pick (eqb k 9) BadRoot (pick (eqb k 10) TooLong (pick (eqb k 11) Unsupported (pick (eqb k 12) TooDeep
+    (pick (eqb k 13) NoRoom (pick (eqb k 14) NoDiscriminator (pick (eqb k 15) NotText (pick (eqb k 16) Unfit (BadBook (reasonOf k))))))))))))))
 
 answer-back : (n : Status) → answerOf (codeOf n) ≡ n
-unfolding answerOf codeOf
+unfolding answerOf reasonOf codeOf reasonNumber
 answer-back Read = refl
 answer-back NotEnoughData = refl
 answer-back InvalidData = refl
 answer-back InvalidType = refl
-answer-back BadBook = refl
+answer-back NotPrepared = refl
 answer-back BadRoot = refl
 answer-back TooLong = refl
 answer-back Unsupported = refl
@@ -31,6 +39,13 @@ answer-back NoRoom = refl
 answer-back NoDiscriminator = refl
 answer-back NotText = refl
 answer-back Unfit = refl
+answer-back (BadBook Head) = refl
+answer-back (BadBook RecordLength) = refl
+answer-back (BadBook CodeRange) = refl
+answer-back (BadBook TypeLink) = refl
+answer-back (BadBook Bound) = refl
+answer-back (BadBook MemberList) = refl
+answer-back (BadBook FirstMember) = refl
 
 -- no two answers share a number
 pub one-number : (m n : Status) → codeOf m ≡ codeOf n → m ≡ n

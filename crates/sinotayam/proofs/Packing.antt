@@ -1,7 +1,13 @@
 -- Laws of the answers that C sees. Assumes nothing.
-use mathlib.Core.Path.{_≡_, refl, ap, _∙_}
+use mathlib.Core.Path.{_≡_, refl, sym, ap, _∙_}
 use mathlib.Core.List.{List}
-use Prim.Native.Nat.{ℕ, zero, suc}
+use Prim.Native.Nat.{ℕ, zero, suc, _+_, _*_, _^_, _≤_, _<_}
+use native.Mathlib.Omega.{arith}
+use Rattle.book.specs.declared.fault.Reason.{Reason}
+use Rattle.book.specs.declared.fault.Fault.{Fault}
+use Rattle.book.specs.declared.fault.Fault.the-variants.{Nothing, In}
+use Rattle.book.specs.Fault.{reasonNumber, faultWord, faultOf}
+use Rattle.book.proofs.Faults.{told-short}
 use Rattle.wire.specs.declared.settings.Mode.{Mode}
 use Rattle.wire.specs.declared.settings.Mode.the-variants.{Crate, Standard}
 use Rattle.sinotayam.specs.Entry.{readOf}
@@ -36,3 +42,27 @@ pub mode-standard : (n : ℕ) → (n ≡ 0 → ⊥) → Standard ≡ modeOf n
 unfolding modeOf
 mode-standard zero e = absurd (e refl)
 mode-standard (suc n) e = refl
+
+-- what is wrong with a book, in one word
+module _ (b : List ℕ) (f : Fault) (found : f ≡ faultOf b) where
+  pub fault-none : f ≡ Nothing → 0 ≡ faultWord (faultOf b)
+  unfolding faultWord
+  fault-none e = rw (← found, e)
+
+  module _ (k : ℕ) (why : Reason) (e : f ≡ In k why) where
+    two-bytes : k ≤ 65535
+    two-bytes = told-short b k why (sym found ∙ e)
+
+    pub fault-mul : k * 256 < 2 ^ 64
+    fault-mul = omega (arith, two-bytes)
+
+    module _ (n w : ℕ) (h : w < 256) where
+      pub fault-add : k * 256 + w < 2 ^ 64
+      fault-add = omega (arith, two-bytes)
+
+      pub fault-cast : k * 256 + w < 2 ^ 32
+      fault-cast = omega (arith, two-bytes)
+
+      pub fault-word : n ≡ reasonNumber why → w ≡ n → k * 256 + w ≡ faultWord (faultOf b)
+      unfolding faultWord
+      fault-word g i = rw (← found, e, i, g)

@@ -1,6 +1,6 @@
 -- Laws of an index: what preparing leaves, how many types it holds, and that reading with it is reading with the book. Assumes nothing.
 use mathlib.Core.Path.{_≡_, refl, sym, ap, _∙_}
-use mathlib.Core.Bool.{Bool, true, false, not}
+use mathlib.Core.Bool.{Bool, true, false}
 use mathlib.Core.List.{List, [], _∷_, _++_, append-nil}
 use Prim.Native.Nat.{ℕ, zero, suc, _+_, _-_, _≤_, _<_}
 use native.Mathlib.Omega.{arith}
@@ -9,18 +9,23 @@ use lib.Dec.{ltb}
 use lib.ListN.{length, getD, take, drop, set, length-append, length-take, length-drop, drop-of-length-le}
 use lib.Seq.{take-at, take-length}
 use borrow.Rule.Slice.PartMut.{putMid}
-use borrow.Author.Tests.{le-ltb, lt-ltb, eq-eqb, ne-eqb, not-true, not-false}
+use borrow.Author.Tests.{le-ltb, lt-ltb, eq-eqb, ne-eqb}
 use Rattle.book.specs.Types.{BookType, typeCount, typesOf}
 use Rattle.book.specs.Places.{from, placesFrom, indexCount, indexed, typesBy}
 use Rattle.ground.specs.Choice.{pick}
 use Rattle.book.specs.Rules.{headOk, bookOk}
+use Rattle.book.specs.declared.fault.Reason.{Reason}
+use Rattle.book.specs.declared.fault.Fault.{Fault}
+use Rattle.book.specs.declared.fault.Fault.the-variants.{Nothing, In}
+use Rattle.book.specs.Fault.{reasonNumber, faultNumber, faultOf}
 use Rattle.book.proofs.Indexing.{places-spell, length-places}
 use Rattle.book.proofs.Good.{head-good, count-good}
+use Rattle.book.proofs.Faults.{reason-told, told-wrong, told-nothing, right-told}
 use Rattle.sinotayam.specs.declared.answer.Status.{Status}
-use Rattle.sinotayam.specs.declared.answer.Status.the-variants.{Read, BadBook, NoRoom}
+use Rattle.sinotayam.specs.declared.answer.Status.the-variants.{Read, NotPrepared, NoRoom, BadBook}
 use Rattle.sinotayam.specs.declared.answer.Answer.{Answer}
 use Rattle.sinotayam.specs.Answer.{codeOf, Result, refusedBy, Settled}
-use Rattle.sinotayam.specs.Entry.{refusedIf, withBook}
+use Rattle.sinotayam.specs.Entry.{refusedIf, byFault, withBook}
 use Rattle.sinotayam.specs.Prepared.{hasPlaces, prepareOf, preparedFrom, placesIn, withIndex}
 use Rattle.sinotayam.proofs.Settling.{settled-same}
 
@@ -38,40 +43,46 @@ pub set-none : (l : List ℕ) (k : ℕ) → length l ≡ 0 → l ≡ set l 0 k
 set-none [] k e = refl
 set-none (x ∷ xs) k e = absurd (omega arith)
 
-module _ (b lent : List ℕ) (f : Bool) (is : f ≡ bookOk b) where
+module _ (b lent : List ℕ) where
   -- a book that breaks a rule
-  broken : not f ≡ true → bookOk b ≡ false
-  broken e = sym is ∙ not-true f e
+  module _ (f : Fault) (found : f ≡ faultOf b) (k : ℕ) (why : Reason) (is : f ≡ In k why) where
+    broken : faultOf b ≡ In k why
+    broken = sym found ∙ is
 
-  pub prepare-bad : (r : Status) → not f ≡ true → r ≡ BadBook → codeOf r ≡ prepareOf b lent
-  unfolding prepareOf codeOf
-  prepare-bad r e g = rw (broken e, g)
+    pub prepare-bad : (r : Status) → r ≡ BadBook why → codeOf r ≡ prepareOf b lent
+    unfolding prepareOf codeOf faultNumber
+    prepare-bad r g = rw (told-wrong b k why broken, broken, g)
 
-  pub index-bad : (u : List ℕ) → not f ≡ true → u ≡ set lent 0 0 → u ≡ preparedFrom b lent
-  unfolding preparedFrom
-  index-bad u e g = rw (broken e) g
+    pub index-bad : (u : List ℕ) → u ≡ set lent 0 0 → u ≡ preparedFrom b lent
+    unfolding preparedFrom
+    index-bad u g = rw (told-wrong b k why broken) g
 
-  -- an index that is too short
-  kept : not f ≡ false → bookOk b ≡ true
-  kept e = sym is ∙ not-false f e
+  module _ (is : faultOf b ≡ Nothing) where
+    kept : bookOk b ≡ true
+    kept = told-nothing b is
 
-  pub prepare-short : (r : Status) (n : ℕ) → not f ≡ false → n ≡ typeCount b → length lent ≤ n → r ≡ NoRoom → codeOf r ≡ prepareOf b lent
-  unfolding prepareOf hasPlaces codeOf
-  prepare-short r n e g h k = rw (kept e, le-ltb (typeCount b) (length lent) (omega arith), k)
+    -- an index that is too short
+    pub prepare-short : (r : Status) (n : ℕ) → n ≡ typeCount b → length lent ≤ n → r ≡ NoRoom → codeOf r ≡ prepareOf b lent
+    unfolding prepareOf hasPlaces codeOf
+    prepare-short r n g h k = rw (kept, le-ltb (typeCount b) (length lent) (omega arith), k)
 
-  pub index-short : (u : List ℕ) (n : ℕ) → not f ≡ false → n ≡ typeCount b → length lent ≤ n → u ≡ set lent 0 0 → u ≡ preparedFrom b lent
-  unfolding preparedFrom hasPlaces
-  index-short u n e g h k = rw (kept e, le-ltb (typeCount b) (length lent) (omega arith)) k
+    pub index-short : (u : List ℕ) (n : ℕ) → n ≡ typeCount b → length lent ≤ n → u ≡ set lent 0 0 → u ≡ preparedFrom b lent
+    unfolding preparedFrom hasPlaces
+    index-short u n g h k = rw (kept, le-ltb (typeCount b) (length lent) (omega arith)) k
 
-  -- an index with all places
-  pub prepare-good : (n : ℕ) → not f ≡ false → n ≡ typeCount b → n < length lent → codeOf Read ≡ prepareOf b lent
-  unfolding prepareOf hasPlaces codeOf
-  prepare-good n e g h = rw (kept e, lt-ltb (typeCount b) (length lent) (omega arith))
+    -- an index with all places
+    pub prepare-good : (n : ℕ) → n ≡ typeCount b → n < length lent → codeOf Read ≡ prepareOf b lent
+    unfolding prepareOf hasPlaces codeOf
+    prepare-good n g h = rw (kept, lt-ltb (typeCount b) (length lent) (omega arith))
 
-  pub index-good : (n : ℕ) (ys : List ℕ) → not f ≡ false → n ≡ typeCount b → n < length lent → ys ≡ indexed b (take (length lent - 1) (drop 1 lent)) → set (putMid 1 (length lent - 1) lent ys) 0 n ≡ preparedFrom b lent
-  unfolding preparedFrom hasPlaces
-  index-good n ys e g h k =
-      rw (kept e, lt-ltb (typeCount b) (length lent) (omega arith)) (after-count b lent n ys g (count-good b (kept e) .1) h k)
+    pub index-good : (n : ℕ) (ys : List ℕ) → n ≡ typeCount b → n < length lent → ys ≡ indexed b (take (length lent - 1) (drop 1 lent)) → set (putMid 1 (length lent - 1) lent ys) 0 n ≡ preparedFrom b lent
+    unfolding preparedFrom hasPlaces
+    index-good n ys g h k =
+        rw (kept, lt-ltb (typeCount b) (length lent) (omega arith)) (after-count b lent n ys g (count-good b kept .1) h k)
+
+-- what the judge found, of the book
+pub judged-nothing : (b : List ℕ) (f : Fault) → f ≡ faultOf b → f ≡ Nothing → faultOf b ≡ Nothing
+judged-nothing b f e h = sym e ∙ h
 
 -- HOW MANY TYPES AN INDEX HOLDS
 module _ (index : List ℕ) where
@@ -101,7 +112,7 @@ places-part index n is =
     rw k (take-taken (getD index 0 0) (drop 1 index))
 
 module _ (b index : List ℕ) (next : List BookType → Result) (n : ℕ) (is : n ≡ length (placesIn index)) (t v : List ℕ) (r : Answer) where
-  pub index-none : n ≡ 0 → Settled (refusedBy BadBook) t v r → Settled (withIndex b index next) t v r
+  pub index-none : n ≡ 0 → Settled (refusedBy NotPrepared) t v r → Settled (withIndex b index next) t v r
   unfolding withIndex refusedIf
   index-none e d = settled-same (rw (eq-eqb (length (placesIn index)) 0 (sym is ∙ e))) d
 
@@ -114,56 +125,46 @@ module _ (b index : List ℕ) (next : List BookType → Result) (n : ℕ) (is : 
 -- PREPARED READING IS READING
 module _ (b lent : List ℕ) (next : List BookType → Result) where
   same-good : bookOk b ≡ true → hasPlaces b lent ≡ true → withIndex b (preparedFrom b lent) next ≡ withBook b next
-  unfolding withIndex withBook preparedFrom placesIn refusedIf typesOf from
+  unfolding withIndex withBook byFault preparedFrom placesIn refusedIf typesOf from
   same-good e h =
       let few : 1 ≤ typeCount b = count-good b e .0 in
       let k : take (typeCount b) (placesFrom b 7 (typeCount b) ++ drop (suc (typeCount b)) lent) ≡ placesFrom b 7 (typeCount b) = take-at (placesFrom b 7 (typeCount b)) (drop (suc (typeCount b)) lent) (typeCount b) (length-places b 7 (typeCount b)) in
-      rw (e, h, k, length-places b 7 (typeCount b), ne-eqb (typeCount b) 0 (omega arith))
+      rw (right-told b e, e, h, k, length-places b 7 (typeCount b), ne-eqb (typeCount b) 0 (omega arith))
       (ap next (places-spell b 7 (typeCount b)))
 
   -- with what `prepare` leaves where it says 0
   pub prepared-same : prepareOf b lent ≡ 0 → withIndex b (preparedFrom b lent) next ≡ withBook b next
-  unfolding prepareOf
-  prepared-same said = by-book (bookOk b) refl (hasPlaces b lent) refl
+  unfolding prepareOf faultNumber
+  prepared-same said = by-fault (faultOf b) refl (hasPlaces b lent) refl
     where
-      by-book : (f : Bool) → bookOk b ≡ f → (g : Bool) → hasPlaces b lent ≡ g → withIndex b (preparedFrom b lent) next ≡ withBook b next
-      by-book true e true h = same-good e h
-      by-book true e false h = let z : _≡_ {A = ℕ} 13 0 = rw (e, h) at said in absurd (omega arith)
-      by-book false e g h = let z : _≡_ {A = ℕ} 8 0 = rw e at said in absurd (omega arith)
+      by-fault : (f : Fault) → faultOf b ≡ f → (g : Bool) → hasPlaces b lent ≡ g → withIndex b (preparedFrom b lent) next ≡ withBook b next
+      by-fault Nothing e true h = same-good (told-nothing b e) h
+      by-fault Nothing e false h = let z : _≡_ {A = ℕ} 13 0 = rw (told-nothing b e, h) at said in absurd (omega arith)
+      by-fault (In k why) e g h =
+          let z : reasonNumber why ≡ 0 = rw (told-wrong b k why e, e) at said in
+          absurd (omega (arith, reason-told why .low))
 
--- the judge counts 64 types at most
-pub own-few : (b : List ℕ) (n : ℕ) → n ≡ pick (bookOk b) (typeCount b) 0 → n ≤ 64
-own-few b n g = by-book (bookOk b) refl
-  where
-    by-book : (f : Bool) → bookOk b ≡ f → n ≤ 64
-    by-book true e = let c : n ≡ typeCount b = rw e at g in omega (arith, count-good b e .1)
-    by-book false e = let z : n ≡ 0 = rw e at g in omega arith
+-- READING WITH AN INDEX OF ITS OWN, by what the judge found
+module _ (b : List ℕ) (f : Fault) (found : f ≡ faultOf b) (next : List BookType → Result) where
+  pub read-bad : (k : ℕ) (why : Reason) (v w : List ℕ) (r : Answer) → f ≡ In k why → Settled (refusedBy (BadBook why)) v w r → Settled (withBook b next) v w r
+  unfolding withBook byFault
+  read-bad k why v w r is d = settled-same (rw (← found, is)) d
 
--- reading with an index of its own: the count, and the words t as the judge leaves them
-module _ (b t ys : List ℕ) (n : ℕ) (next : List BookType → Result) (long : 64 ≤ length t) (g : n ≡ pick (bookOk b) (typeCount b) 0) (k : ys ≡ pick (headOk b) (indexed b t) t) where
-  own-good : bookOk b ≡ true → withIndex b (n ∷ (ys ++ [])) next ≡ withBook b next
-  unfolding preparedFrom hasPlaces
-  own-good e =
-      let few : typeCount b ≤ 64 = count-good b e .1 in
-      let h : ltb (typeCount b) (length (0 ∷ t)) ≡ true = lt-ltb (typeCount b) (length (0 ∷ t)) (omega arith) in
-      let c : n ≡ typeCount b = rw e at g in
-      let i : indexCount b (length t) ≡ typeCount b = omega arith in
-      let w : ys ≡ placesFrom b 7 (typeCount b) ++ drop (typeCount b) t = rw (head-good b e, i) at k in
-      let u : n ∷ (ys ++ []) ≡ preparedFrom b (0 ∷ t) = rw (e, h, append-nil ys, w, c) in
-      rw u (same-good b (0 ∷ t) next e h)
+  -- the count, and the words t as the judge leaves them
+  module _ (t ys : List ℕ) (n : ℕ) (is : f ≡ Nothing) (long : 64 ≤ length t) (g : n ≡ typeCount b) (k : ys ≡ pick (headOk b) (indexed b t) t) where
+    own-same : withIndex b (n ∷ (ys ++ [])) next ≡ withBook b next
+    unfolding preparedFrom hasPlaces
+    own-same =
+        let e : bookOk b ≡ true = told-nothing b (sym found ∙ is) in
+        let few : typeCount b ≤ 64 = count-good b e .1 in
+        let h : ltb (typeCount b) (length (0 ∷ t)) ≡ true = lt-ltb (typeCount b) (length (0 ∷ t)) (omega arith) in
+        let i : indexCount b (length t) ≡ typeCount b = omega arith in
+        let w : ys ≡ placesFrom b 7 (typeCount b) ++ drop (typeCount b) t = rw (head-good b e, i) at k in
+        let u : n ∷ (ys ++ []) ≡ preparedFrom b (0 ∷ t) = rw (e, h, append-nil ys, w, g) in
+        rw u (same-good b (0 ∷ t) next e h)
 
-  own-bad : bookOk b ≡ false → withIndex b (n ∷ (ys ++ [])) next ≡ withBook b next
-  unfolding withIndex withBook placesIn refusedIf
-  own-bad e =
-      let z : n ≡ 0 = rw e at g in
-      rw (e, z)
-
-  pub read-own : (v w : List ℕ) (r : Answer) → Settled (withIndex b (n ∷ (ys ++ [])) next) v w r → Settled (withBook b next) v w r
-  read-own v w r d = settled-same (sym (by-book (bookOk b) refl)) d
-    where
-      by-book : (f : Bool) → bookOk b ≡ f → withIndex b (n ∷ (ys ++ [])) next ≡ withBook b next
-      by-book true e = own-good e
-      by-book false e = own-bad e
+    pub read-own : (v w : List ℕ) (r : Answer) → Settled (withIndex b (n ∷ (ys ++ [])) next) v w r → Settled (withBook b next) v w r
+    read-own v w r d = settled-same (sym own-same) d
 
 -- its length
 pub own-words : (b t ys : List ℕ) → ys ≡ pick (headOk b) (indexed b t) t → length t ≡ 64 → 65 ≡ suc (length (ys ++ []))

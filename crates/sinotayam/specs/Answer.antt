@@ -5,20 +5,21 @@ use mathlib.Core.List.{List, [], _++_}
 use lib.ListN.{length, replicate}
 use Rattle.wire.specs.declared.settings.Mode.{Mode}
 use Rattle.wire.specs.declared.settings.Mode.the-variants.{Crate, Standard}
+use Rattle.book.specs.Fault.{reasonNumber}
 use Rattle.table.specs.declared.rows.Row.{Row}
 use Rattle.table.specs.Rows.{width, words}
 use Rattle.table.specs.Outcome.{Outcome, numberOf, rowsOf}
 use Rattle.sinotayam.specs.declared.answer.Status.{Status}
-use Rattle.sinotayam.specs.declared.answer.Status.the-variants.{Read, NotEnoughData, InvalidData, InvalidType, BadBook, BadRoot, TooLong, Unsupported, TooDeep, NoRoom, NoDiscriminator, NotText, Unfit}
+use Rattle.sinotayam.specs.declared.answer.Status.the-variants.{Read, NotEnoughData, InvalidData, InvalidType, NotPrepared, BadRoot, TooLong, Unsupported, TooDeep, NoRoom, NoDiscriminator, NotText, Unfit, BadBook}
 use Rattle.sinotayam.specs.declared.answer.Answer.{Answer}
 
--- "Numbers given back"; order 13 takes 4 "out of the table of numbers"
+-- "Numbers given back"; order 13 takes 4 "out of the table of numbers", and of order 2 "8 becomes 17 to 23": 8 is left for an index of no types
 unfoldable pub codeOf : Status → ℕ
 codeOf Read = 0
 codeOf NotEnoughData = 1
 codeOf InvalidData = 2
 codeOf InvalidType = 3
-codeOf BadBook = 8
+codeOf NotPrepared = 8
 codeOf BadRoot = 9
 codeOf TooLong = 10
 codeOf Unsupported = 11
@@ -27,6 +28,7 @@ codeOf NoRoom = 13
 codeOf NoDiscriminator = 14
 codeOf NotText = 15
 codeOf Unfit = 16
+codeOf (BadBook why) = reasonNumber why
 
 -- the mode by its number in a C call: 0 is the crate's, anything else the standard's
 unfoldable pub modeOf : ℕ → Mode

@@ -1,6 +1,6 @@
 -- The entry points. "Order: 8, 9, 10, message under 4 bytes (1), unknown identifier (2), then the reading."
 use Prim.Native.Nat.{ℕ}
-use mathlib.Core.Bool.{Bool, true, false, not}
+use mathlib.Core.Bool.{Bool, true, false}
 use mathlib.Core.List.{List}
 use lib.Dec.{leb, ltb}
 use lib.ListN.{length, getD, drop}
@@ -9,7 +9,9 @@ use Rattle.wire.specs.declared.settings.Representation.{Representation}
 use Rattle.wire.specs.declared.settings.Representation.the-variants.{Known, Unknown}
 use Rattle.wire.specs.Identifier.{settingsOf}
 use Rattle.book.specs.Types.{BookType, typesOf}
-use Rattle.book.specs.Rules.{bookOk}
+use Rattle.book.specs.declared.fault.Fault.{Fault}
+use Rattle.book.specs.declared.fault.Fault.the-variants.{Nothing, In}
+use Rattle.book.specs.Fault.{faultOf}
 use Rattle.reader.specs.Nested.{reading}
 use Rattle.sinotayam.specs.declared.answer.Status.{Status}
 use Rattle.sinotayam.specs.declared.answer.Status.the-variants.{NotEnoughData, InvalidData, BadBook, BadRoot, TooLong}
@@ -41,9 +43,14 @@ dataBy types root id s mode room =
     (refusedIf (ltb 65532 (length s)) TooLong
     (byIdentifier types root s room (settingsOf mode (getD id 0 0) (getD id 1 0))))
 
--- 8, "BadBook: a book rule below is broken"; else what follows, with the types of the book
+-- 8, "BadBook: a book rule below is broken": order 2, "8 becomes 17 to 23 ..; places after it stay". Where nothing is wrong, what follows
+unfoldable pub byFault : Fault → Result → Result
+byFault Nothing next = next
+byFault (In k why) next = refusedBy (BadBook why)
+
+-- what follows has the types of the book
 unfoldable pub withBook : List ℕ → (List BookType → Result) → Result
-withBook book next = refusedIf (not (bookOk book)) BadBook (next (typesOf book))
+withBook book next = byFault (faultOf book) (next (typesOf book))
 
 -- READING A MESSAGE: book, root, message, the mode, and the rows there is room for
 abbrev pub readOf : List ℕ → ℕ → List ℕ → Mode → ℕ → Result

@@ -10,7 +10,8 @@ use Rattle.wire.specs.declared.settings.Mode.{Mode}
 use Rattle.book.specs.Types.{BookType, typeCount}
 use Rattle.book.specs.Places.{placesFrom, typesBy}
 use Rattle.book.specs.Rules.{bookOk}
-use Rattle.sinotayam.specs.declared.answer.Status.the-variants.{BadBook}
+use Rattle.book.specs.Fault.{faultNumber, faultOf}
+use Rattle.sinotayam.specs.declared.answer.Status.the-variants.{NotPrepared}
 use Rattle.sinotayam.specs.Answer.{Result}
 use Rattle.sinotayam.specs.Entry.{refusedIf, messageBy, dataBy}
 
@@ -18,9 +19,9 @@ use Rattle.sinotayam.specs.Entry.{refusedIf, messageBy, dataBy}
 unfoldable pub hasPlaces : List ℕ → List ℕ → Bool
 hasPlaces book lent = ltb (typeCount book) (length lent)
 
--- the number of preparing: 8, "BadBook", 13 where the lent index is too short, else 0
+-- the number of preparing: 17 to 23 for what is wrong with the book, 13 where the lent index is too short, else 0
 unfoldable pub prepareOf : List ℕ → List ℕ → ℕ
-prepareOf book lent = pick (bookOk book) (pick (hasPlaces book lent) 0 13) 8
+prepareOf book lent = pick (bookOk book) (pick (hasPlaces book lent) 0 13) (faultNumber (faultOf book))
 
 -- what it leaves in the lent index: the count and the places, and after them what was there; where it refuses, the count 0
 unfoldable pub preparedFrom : List ℕ → List ℕ → List ℕ
@@ -36,9 +37,9 @@ placesIn index = take (getD index 0 0) (drop 1 index)
 abbrev pub typesIn : List ℕ → List ℕ → List BookType
 typesIn book index = typesBy book (placesIn index)
 
--- 8 where the index holds no types; else what follows, with those it holds. The book is not judged again
+-- 8, NotPrepared, where the index holds no types; else what follows, with those it holds. The book is not judged again
 unfoldable pub withIndex : List ℕ → List ℕ → (List BookType → Result) → Result
-withIndex book index next = refusedIf (eqb (length (placesIn index)) 0) BadBook (next (typesIn book index))
+withIndex book index next = refusedIf (eqb (length (placesIn index)) 0) NotPrepared (next (typesIn book index))
 
 -- READING WITH AN INDEX, a message and data
 abbrev pub readPrepared : List ℕ → List ℕ → ℕ → List ℕ → Mode → ℕ → Result

@@ -2,16 +2,17 @@
 ghost use mathlib.Core.Path.{_≡_};
 ghost use Rattle.table.specs.Outcome.{refusalNumber};
 ghost use Rattle.sinotayam.specs.Answer.{codeOf, refusedBy, Settled};
+use book::fault::Reason;
 use table::out::Refusal;
 use table::rows::clear_after;
 
-// Document 01's "Numbers given back", without 4, which no call gives back.
+// Document 01's "Numbers given back", without 4, which no call gives back, and with order 2's reasons for a book. A reading with an index of no types is NotPrepared.
 pub enum Status {
     Read,
     NotEnoughData,
     InvalidData,
     InvalidType,
-    BadBook,
+    NotPrepared,
     BadRoot,
     TooLong,
     Unsupported,
@@ -20,6 +21,7 @@ pub enum Status {
     NoDiscriminator,
     NotText,
     Unfit,
+    BadBook(Reason),
 }
 
 pub struct Answer {
@@ -28,7 +30,7 @@ pub struct Answer {
 }
 
 impl Status {
-    // The number as document 01 writes it.
+    // The number as documents 01 and 02 write it.
     pub fn code(self) -> u8
         ensures { λ r. ⌜ r ≡ codeOf self ⌝ }
     {
@@ -37,7 +39,7 @@ impl Status {
             Status::NotEnoughData => 1,
             Status::InvalidData => 2,
             Status::InvalidType => 3,
-            Status::BadBook => 8,
+            Status::NotPrepared => 8,
             Status::BadRoot => 9,
             Status::TooLong => 10,
             Status::Unsupported => 11,
@@ -46,6 +48,7 @@ impl Status {
             Status::NoDiscriminator => 14,
             Status::NotText => 15,
             Status::Unfit => 16,
+            Status::BadBook(why) => why.number(),
         }
     }
 

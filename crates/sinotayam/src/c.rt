@@ -2,6 +2,7 @@
 ghost use mathlib.Core.Path.{_≡_};
 ghost use mathlib.Core.Bool.{not};
 ghost use lib.Dec.{eqb};
+ghost use Rattle.book.specs.Fault.{faultWord, faultOf};
 ghost use Rattle.table.specs.Rows.{capacity};
 ghost use Rattle.fit.specs.Check.{checkOf};
 ghost use Rattle.sinotayam.specs.Answer.{codeOf, modeOf, packed, Returned};
@@ -13,6 +14,8 @@ use crate::prepared::prepare;
 use crate::read;
 use crate::read_prepared;
 use crate::texts::text_status;
+use book::fault::Fault;
+use book::judge::fault;
 use wire::settings::Mode;
 
 // 2 to the 56th: beside the number's byte a word has 56 bits for the count of rows.
@@ -51,7 +54,18 @@ pub extern "C" fn sinotayam_read(
     pack(read(book, root as usize, message, mode, table))
 }
 
-// The type check: 0, 8, 9 or 16. The last number: 0 for a type that is used with any encoding, anything else for one that is used with XCDR2 only.
+// What is wrong with a book: record * 256 + number, and 0 for a right one.
+#[no_mangle]
+pub extern "C" fn sinotayam_fault(book: &[u8]) -> u32
+    ensures { λ r. ⌜ r ≡ faultWord (faultOf (now (book .entry))) ⌝ }
+{
+    match fault(book) {
+        Fault::Nothing => 0,
+        Fault::In(k, why) => (k * 256 + ground::wide(why.number()) as usize) as u32,
+    }
+}
+
+// The type check: 0, 17 to 23, 9 or 16. The last number: 0 for a type that is used with any encoding, anything else for one that is used with XCDR2 only.
 #[no_mangle]
 pub extern "C" fn sinotayam_check(book: &[u8], root: u16, only_xcdr2: u8) -> u8
     ensures { λ r. ⌜ r ≡ checkOf (now (book .entry)) root (not (eqb «only_xcdr2» 0)) ⌝ }

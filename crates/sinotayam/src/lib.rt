@@ -21,7 +21,9 @@ use crate::reading::HEADER;
 use crate::reading::LONGEST;
 use crate::reading::data_by;
 use crate::reading::identified;
+use book::fault::Fault;
 use book::judge::judge_into;
+use book::types::type_count;
 use wire::settings::Mode;
 
 // A message of one of the types at these places.
@@ -62,7 +64,7 @@ pub fn read_prepared(
 {
     let n = count(index);
     if n == 0 {
-        return refused(table, Status::BadBook);
+        return refused(table, Status::NotPrepared);
     }
     let end = n + 1;
     message_by(book, &index[1..end], root, message, mode, table)
@@ -81,7 +83,7 @@ pub fn read_data_prepared(
 {
     let n = count(index);
     if n == 0 {
-        return refused(table, Status::BadBook);
+        return refused(table, Status::NotPrepared);
     }
     let end = n + 1;
     data_by(book, &index[1..end], root, id, s, mode, table)
@@ -93,9 +95,13 @@ pub fn read(book: &[u8], root: usize, message: &[u8], mode: Mode, table: &mut [u
     ensures { λ r. ⌜ Settled (readOf (now (book .entry)) root (now (message .entry)) mode (capacity (now (table .entry)))) (now (table .entry)) (now (table .exit)) r ⌝ }
 {
     let mut index = [0u32; WORDS];
-    let n = judge_into(book, &mut index[1..]);
-    index[0] = n as u32;
-    read_prepared(book, &index, root, message, mode, table)
+    match judge_into(book, &mut index[1..]) {
+        Fault::In(_, why) => refused(table, Status::BadBook(why)),
+        Fault::Nothing => {
+            index[0] = type_count(book) as u32;
+            read_prepared(book, &index, root, message, mode, table)
+        }
+    }
 }
 
 // Reads data whose identifier is known: the Rust's deserialize_top_level_type_from_representation_identifier.
@@ -110,7 +116,11 @@ pub fn read_data(
     ensures { λ r. ⌜ Settled (readDataOf (now (book .entry)) root id (now (s .entry)) mode (capacity (now (table .entry)))) (now (table .entry)) (now (table .exit)) r ⌝ }
 {
     let mut index = [0u32; WORDS];
-    let n = judge_into(book, &mut index[1..]);
-    index[0] = n as u32;
-    read_data_prepared(book, &index, root, id, s, mode, table)
+    match judge_into(book, &mut index[1..]) {
+        Fault::In(_, why) => refused(table, Status::BadBook(why)),
+        Fault::Nothing => {
+            index[0] = type_count(book) as u32;
+            read_data_prepared(book, &index, root, id, s, mode, table)
+        }
+    }
 }

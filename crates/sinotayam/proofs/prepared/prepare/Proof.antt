@@ -1,13 +1,22 @@
-use Rattle.sinotayam.proofs.Preparing.{prepare-bad, index-bad, prepare-short, index-short, prepare-good, index-good}
+use Rattle.sinotayam.proofs.Preparing.{judged-nothing, prepare-bad, index-bad}
 use borrow.Author.Needs.{needs}
 use Rattle.sinotayam.proofs.prepared.prepare.Statement.{statement}
 use Rattle.sinotayam.proofs.prepared.prepare.Tie as tie
 
-judge-requires : tie.Need-judge-requires
-judge-requires c κs = search needs
+fault-requires : tie.Need-fault-requires
+fault-requires c κs = search needs
+
+enum-known-why : tie.Need-enum-known-why
+enum-known-why c = search needs
 
 unprepared-requires : tie.Need-unprepared-requires
 unprepared-requires c κs = search needs
+
+enum-told : tie.Need-enum-told
+enum-told c = search needs
+
+places-of-requires : tie.Need-places-of-requires
+places-of-requires c κs = search (needs, judged-nothing)
 
 same-length : tie.Need-same-length
 same-length c = search needs
@@ -15,59 +24,22 @@ same-length c = search needs
 returns : tie.Need-returns
 returns c = search (needs, prepare-bad, index-bad)
 
-type-count-requires : tie.Need-type-count-requires
-type-count-requires c κs = search needs
-
-unprepared-requires-2 : tie.Need-unprepared-requires-2
-unprepared-requires-2 c κs = search needs
-
 same-length-2 : tie.Need-same-length-2
 same-length-2 c = search needs
 
 returns-2 : tie.Need-returns-2
-returns-2 c = search (needs, prepare-short, index-short)
-
-sub-index : tie.Need-sub-index
-sub-index c = search needs
-
-part-index-start : tie.Need-part-index-start
-part-index-start c = search needs
-
-part-index-end : tie.Need-part-index-end
-part-index-end c = search needs
-
-index-requires : tie.Need-index-requires
-index-requires c κs = search needs
-
-cast-lent : tie.Need-cast-lent
-cast-lent c = search needs
-
-slice-write-lent : tie.Need-slice-write-lent
-slice-write-lent c = search needs
-
-same-length-3 : tie.Need-same-length-3
-same-length-3 c = search needs
-
-returns-3 : tie.Need-returns-3
-returns-3 c = search (needs, prepare-good, index-good)
+returns-2 c = search needs
 
 pub prepare-spec : {M : Type 1} → statement M
 prepare-spec =
     tie.close
     (tie.spec
-    judge-requires
+    fault-requires
+    enum-known-why
     unprepared-requires
+    enum-told
+    places-of-requires
     same-length
     returns
-    type-count-requires
-    unprepared-requires-2
     same-length-2
-    returns-2
-    sub-index
-    part-index-start
-    part-index-end
-    index-requires
-    cast-lent
-    slice-write-lent
-    same-length-3
-    returns-3)
+    returns-2)

@@ -1,4 +1,5 @@
 use Rattle.sinotayam.specs.Answer.{codeOf}
+use Rattle.sinotayam.proofs.Numbers.{code-reason}
 use borrow.Author.Needs.{needs}
 use Rattle.sinotayam.proofs.answer.Status.code.Statement.{statement}
 use Rattle.sinotayam.proofs.answer.Status.code.Tie as tie
@@ -41,6 +42,12 @@ enum-told-12 c = search needs
 
 enum-told-13 : tie.Need-enum-told-13
 enum-told-13 c = search needs
+
+enum-known-self : tie.Need-enum-known-self
+enum-known-self c = search needs
+
+number-requires : tie.Need-number-requires
+number-requires c κs = search needs
 
 returns : tie.Need-returns
 unfolding codeOf
@@ -94,6 +101,9 @@ returns-13 : tie.Need-returns-13
 unfolding codeOf
 returns-13 c = rw (c .enum-told13 .given .1)
 
+returns-14 : tie.Need-returns-14
+returns-14 c = search (needs, code-reason)
+
 pub code-spec : {M : Type 1} → statement M
 code-spec =
     tie.close
@@ -111,6 +121,8 @@ code-spec =
     enum-told-11
     enum-told-12
     enum-told-13
+    enum-known-self
+    number-requires
     returns
     returns-2
     returns-3
@@ -123,4 +135,5 @@ code-spec =
     returns-10
     returns-11
     returns-12
-    returns-13)
+    returns-13
+    returns-14)
