@@ -1,9 +1,10 @@
-// What a call gives back: a number of document 01's table, and how many rows stand in the lent table.
+// What a call gives back: a number of document 01's table, how many rows stand in the lent table, and what is told of a shortage.
 ghost use mathlib.Core.Path.{_≡_};
-ghost use Rattle.table.specs.Outcome.{refusalNumber};
-ghost use Rattle.sinotayam.specs.Answer.{codeOf, refusedBy, Settled};
+ghost use Rattle.table.specs.Outcome.{refusalNumber, nothingTold};
+ghost use Rattle.sinotayam.specs.Answer.{codeOf, refusedBy, shortBy, Settled};
 use table::out::Refusal;
 use table::rows::clear_after;
+use wire::cursor::Told;
 
 // Document 01's "Numbers given back", without 4, which no call gives back.
 pub enum Status {
@@ -25,6 +26,8 @@ pub enum Status {
 pub struct Answer {
     pub status: Status,
     pub rows: usize,
+    // Where the read that ran short began, and the bytes that it still needed; both 0 unless the status is NotEnoughData.
+    pub told: Told,
 }
 
 impl Status {
@@ -68,5 +71,31 @@ pub fn refused(table: &mut [u64], status: Status) -> Answer
     ensures { λ r. ⌜ Settled (refusedBy status) (now (table .entry)) (now (table .exit)) r ⌝ }
 {
     clear_after(table, 0);
-    Answer { status, rows: 0 }
+    Answer {
+        status,
+        rows: 0,
+        told: nothing_told(),
+    }
+}
+
+// A read that ran short: the same, and what is told of it.
+pub fn short(table: &mut [u64], told: Told) -> Answer
+    ensures { λ r. ⌜ Settled (shortBy told) (now (table .entry)) (now (table .exit)) r ⌝ }
+{
+    clear_after(table, 0);
+    Answer {
+        status: Status::NotEnoughData,
+        rows: 0,
+        told,
+    }
+}
+
+// What is told of an answer that is no shortage.
+pub fn nothing_told() -> Told
+    ensures { λ r. ⌜ r ≡ nothingTold ⌝ }
+{
+    Told {
+        position: 0,
+        need: 0,
+    }
 }

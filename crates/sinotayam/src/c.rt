@@ -1,4 +1,5 @@
 // The calls for C and Rust: include/sinotayam.h declares them. A slice is a pointer and a length there. Nothing is required of any.
+// A reading call is lent two words, for what is told of a shortage.
 ghost use mathlib.Core.Path.{_≡_};
 ghost use mathlib.Core.Bool.{not};
 ghost use lib.Dec.{eqb};
@@ -44,11 +45,16 @@ pub extern "C" fn sinotayam_read(
     message: &[u8],
     standard: u8,
     table: &mut [u64],
+    position: &mut u64,
+    need: &mut u64,
 ) -> u64
-    ensures { λ r. ⌜ Returned (readOf (now (book .entry)) root (now (message .entry)) (modeOf standard) (capacity (now (table .entry)))) (now (table .entry)) (now (table .exit)) r ⌝ }
+    ensures { λ r. ⌜ Returned (readOf (now (book .entry)) root (now (message .entry)) (modeOf standard) (capacity (now (table .entry)))) (now (table .entry)) (now (table .exit)) (now (position .exit)) (now (need .exit)) r ⌝ }
 {
     let mode = mode_of(standard);
-    pack(read(book, root as usize, message, mode, table))
+    let a = read(book, root as usize, message, mode, table);
+    *position = a.told.position as u64;
+    *need = a.told.need as u64;
+    pack(a)
 }
 
 // The type check: 0, 8, 9 or 16. The last number: 0 for a type that is used with any encoding, anything else for one that is used with XCDR2 only.
@@ -74,11 +80,16 @@ pub extern "C" fn sinotayam_read_prepared(
     message: &[u8],
     standard: u8,
     table: &mut [u64],
+    position: &mut u64,
+    need: &mut u64,
 ) -> u64
-    ensures { λ r. ⌜ Returned (readPrepared (now (book .entry)) (now (index .entry)) root (now (message .entry)) (modeOf standard) (capacity (now (table .entry)))) (now (table .entry)) (now (table .exit)) r ⌝ }
+    ensures { λ r. ⌜ Returned (readPrepared (now (book .entry)) (now (index .entry)) root (now (message .entry)) (modeOf standard) (capacity (now (table .entry)))) (now (table .entry)) (now (table .exit)) (now (position .exit)) (now (need .exit)) r ⌝ }
 {
     let mode = mode_of(standard);
-    pack(read_prepared(book, index, root as usize, message, mode, table))
+    let a = read_prepared(book, index, root as usize, message, mode, table);
+    *position = a.told.position as u64;
+    *need = a.told.need as u64;
+    pack(a)
 }
 
 #[no_mangle]

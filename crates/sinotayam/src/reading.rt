@@ -8,7 +8,9 @@ ghost use Rattle.sinotayam.specs.Answer.{resultOf, Settled};
 ghost use Rattle.sinotayam.specs.Entry.{byIdentifier, dataBy};
 use crate::answer::Answer;
 use crate::answer::Status;
+use crate::answer::nothing_told;
 use crate::answer::refused;
+use crate::answer::short;
 use reader::top_level_type;
 use table::out::Out;
 use table::rows::clear_after;
@@ -40,9 +42,10 @@ fn data_as(
             Answer {
                 status: Status::Read,
                 rows,
+                told: nothing_told(),
             }
         }
-        Out::Short(_) => refused(table, Status::NotEnoughData),
+        Out::Short(x) => short(table, x.told),
         Out::Refused(k) => refused(table, Status::of_refusal(k)),
     }
 }

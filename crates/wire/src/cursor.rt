@@ -3,7 +3,7 @@
 ghost use mathlib.Core.Path.{_≡_};
 ghost use Prim.Native.Nat.{_+_, _<_, _≤_};
 ghost use lib.ListN.{length};
-ghost use Rattle.wire.specs.Place.{cursorAt, broughtBack, alignmentOf, gapOf, paddingOf, seekTo, alignTo};
+ghost use Rattle.wire.specs.Place.{cursorAt, broughtBack, inAWord, alignmentOf, gapOf, paddingOf, seekTo, alignTo};
 use crate::settings::Version;
 
 pub struct Cursor {
@@ -11,13 +11,20 @@ pub struct Cursor {
     pub origin: usize,
 }
 
-// What a read that ran short tells. Whoever meets one passes it on whole.
+// What is told of a read that ran short: where it began, and the bytes that it still needed.
+pub struct Told {
+    pub position: usize,
+    pub need: usize,
+}
+
+// A read that ran short: where the reading stands, and what is told. Whoever meets one passes it on whole.
 pub struct Shortage {
     pub at: Cursor,
+    pub told: Told,
 }
 
 impl Shortage {
-    // The same shortage, with the reading standing at `c` again.
+    // The same shortage, with the reading standing at `c` again. What is told stays.
     pub fn back_to(self, c: Cursor) -> Shortage
         ensures { λ r. ⌜ r ≡ broughtBack self c ⌝ }
     {
@@ -63,10 +70,19 @@ impl Cursor {
         let origin = self.origin;
         let end = s.len();
         if end < pos {
-            return Place::Short(Shortage { at: self });
+            let need = sum_in_a_word(pos - end, n);
+            let told = Told {
+                position: pos,
+                need,
+            };
+            return Place::Short(Shortage { at: self, told });
         }
         if end - pos < n {
-            return Place::Short(Shortage { at: self });
+            let told = Told {
+                position: pos,
+                need: n - (end - pos),
+            };
+            return Place::Short(Shortage { at: self, told });
         }
         Place::At(Cursor::new(pos + n, origin))
     }
@@ -97,6 +113,19 @@ impl Cursor {
         let n = self.padding(alignment);
         self.seek(s, n)
     }
+}
+
+// The most that a word holds.
+const MOST: usize = 18446744073709551615;
+
+// A sum, or the most that a word holds.
+fn sum_in_a_word(a: usize, b: usize) -> usize
+    ensures { λ r. ⌜ r ≡ inAWord (a + b) ⌝ }
+{
+    if MOST - a < b {
+        return MOST;
+    }
+    a + b
 }
 
 fn alignment_of(version: Version, size: usize) -> usize
