@@ -66,7 +66,7 @@ pub fn replies(said: &str) -> Vec<Reply> {
     for line in said.lines() {
         let words: Vec<u64> = line.split(' ').filter_map(|w| w.parse().ok()).collect();
         match words[..] {
-            [n, count] => all.push(Reply { number: n as u8, rows: Vec::new(), count, cleared: true, prepared: true }),
+            [n, count] => all.push(Reply { number: n as u8, rows: Vec::new(), count, told: [0, 0], cleared: true, prepared: true }),
             [kind, id, a, b] => all.last_mut().expect("an answer first").rows.push([kind, id, a, b]),
             _ => panic!("the stored output: {line}"),
         }

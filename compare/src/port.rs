@@ -1,5 +1,5 @@
 // The port's program, run over a file of cases.
-use crate::rules::Mode;
+use crate::rules::{Mode, Told};
 use std::io::Write;
 use std::process::{Command, Stdio};
 
@@ -8,6 +8,7 @@ pub struct Reply {
     pub number: u8,
     pub rows: Vec<[u64; 4]>,
     pub count: u64,
+    pub told: Told,
     /// Zero after the last row, the whole table of a refusal too.
     pub cleared: bool,
     /// The prepared reading gave the same.
@@ -71,8 +72,9 @@ fn word(rest: &mut &[u8]) -> u64 {
 
 fn reply(rest: &mut &[u8]) -> Reply {
     let answer = word(rest);
+    let told = [word(rest), word(rest)];
     let marks = take(rest, 1)[0];
     let (number, count) = (answer as u8, answer >> 8);
     let rows = if number == 0 { (0..count).map(|_| [word(rest), word(rest), word(rest), word(rest)]).collect() } else { Vec::new() };
-    Reply { number, rows, count, cleared: marks & 1 != 0, prepared: marks & 2 != 0 }
+    Reply { number, rows, count, told, cleared: marks & 1 != 0, prepared: marks & 2 != 0 }
 }

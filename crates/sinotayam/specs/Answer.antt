@@ -68,9 +68,12 @@ pub record Settled (w : Result) (before after : List ℕ) (r : Answer) : Type 0 
 abbrev pub packed : ℕ → ℕ → ℕ
 packed number rows = rows % 2 ^ 56 * 256 + number
 
--- the word, the two words that are told, and every word of the lent table
-pub record Returned (w : Result) (before after : List ℕ) (position need : ℕ) (r : ℕ) : Type 0 where
+-- the word, and every word of the lent table
+pub record Returned (w : Result) (before after : List ℕ) (r : ℕ) : Type 0 where
   pub word : r ≡ packed (w .number) (length (w .rows))
+  pub table : after ≡ tableOf before (w .rows)
+
+-- and the two words that a C call is lent for what is told
+pub record Tells (w : Result) (position need : ℕ) : Type 0 where
   pub position : position ≡ w .told .position
   pub need : need ≡ w .told .need
-  pub table : after ≡ tableOf before (w .rows)

@@ -1,6 +1,6 @@
 // What a call gives back: a number of document 01's table, how many rows stand in the lent table, and what is told of a shortage.
 ghost use mathlib.Core.Path.{_≡_};
-ghost use Rattle.table.specs.Outcome.{refusalNumber, nothingTold};
+ghost use Rattle.table.specs.Outcome.{refusalNumber};
 ghost use Rattle.sinotayam.specs.Answer.{codeOf, refusedBy, shortBy, Settled};
 use table::out::Refusal;
 use table::rows::clear_after;
@@ -74,7 +74,10 @@ pub fn refused(table: &mut [u64], status: Status) -> Answer
     Answer {
         status,
         rows: 0,
-        told: nothing_told(),
+        told: Told {
+            position: 0,
+            need: 0,
+        },
     }
 }
 
@@ -87,15 +90,5 @@ pub fn short(table: &mut [u64], told: Told) -> Answer
         status: Status::NotEnoughData,
         rows: 0,
         told,
-    }
-}
-
-// What is told of an answer that is no shortage.
-pub fn nothing_told() -> Told
-    ensures { λ r. ⌜ r ≡ nothingTold ⌝ }
-{
-    Told {
-        position: 0,
-        need: 0,
     }
 }

@@ -5,7 +5,7 @@ ghost use mathlib.Core.Bool.{not};
 ghost use lib.Dec.{eqb};
 ghost use Rattle.table.specs.Rows.{capacity};
 ghost use Rattle.fit.specs.Check.{checkOf};
-ghost use Rattle.sinotayam.specs.Answer.{codeOf, modeOf, packed, Returned};
+ghost use Rattle.sinotayam.specs.Answer.{codeOf, modeOf, packed, Returned, Tells};
 ghost use Rattle.sinotayam.specs.Entry.{readOf};
 ghost use Rattle.sinotayam.specs.Prepared.{prepareOf, preparedFrom, readPrepared};
 ghost use Rattle.sinotayam.specs.Text.{textNumber};
@@ -48,7 +48,7 @@ pub extern "C" fn sinotayam_read(
     position: &mut u64,
     need: &mut u64,
 ) -> u64
-    ensures { λ r. ⌜ Returned (readOf (now (book .entry)) root (now (message .entry)) (modeOf standard) (capacity (now (table .entry)))) (now (table .entry)) (now (table .exit)) (now (position .exit)) (now (need .exit)) r ⌝ }
+    ensures { λ r. ⌜ Returned (readOf (now (book .entry)) root (now (message .entry)) (modeOf standard) (capacity (now (table .entry)))) (now (table .entry)) (now (table .exit)) r × Tells (readOf (now (book .entry)) root (now (message .entry)) (modeOf standard) (capacity (now (table .entry)))) (now (position .exit)) (now (need .exit)) ⌝ }
 {
     let mode = mode_of(standard);
     let a = read(book, root as usize, message, mode, table);
@@ -83,7 +83,7 @@ pub extern "C" fn sinotayam_read_prepared(
     position: &mut u64,
     need: &mut u64,
 ) -> u64
-    ensures { λ r. ⌜ Returned (readPrepared (now (book .entry)) (now (index .entry)) root (now (message .entry)) (modeOf standard) (capacity (now (table .entry)))) (now (table .entry)) (now (table .exit)) (now (position .exit)) (now (need .exit)) r ⌝ }
+    ensures { λ r. ⌜ Returned (readPrepared (now (book .entry)) (now (index .entry)) root (now (message .entry)) (modeOf standard) (capacity (now (table .entry)))) (now (table .entry)) (now (table .exit)) r × Tells (readPrepared (now (book .entry)) (now (index .entry)) root (now (message .entry)) (modeOf standard) (capacity (now (table .entry)))) (now (position .exit)) (now (need .exit)) ⌝ }
 {
     let mode = mode_of(standard);
     let a = read_prepared(book, index, root as usize, message, mode, table);

@@ -8,12 +8,12 @@ ghost use Rattle.sinotayam.specs.Answer.{resultOf, Settled};
 ghost use Rattle.sinotayam.specs.Entry.{byIdentifier, dataBy};
 use crate::answer::Answer;
 use crate::answer::Status;
-use crate::answer::nothing_told;
 use crate::answer::refused;
 use crate::answer::short;
 use reader::top_level_type;
 use table::out::Out;
 use table::rows::clear_after;
+use wire::cursor::Told;
 use wire::settings::Mode;
 use wire::settings::Representation;
 use wire::settings::Settings;
@@ -42,7 +42,10 @@ fn data_as(
             Answer {
                 status: Status::Read,
                 rows,
-                told: nothing_told(),
+                told: Told {
+                    position: 0,
+                    need: 0,
+                },
             }
         }
         Out::Short(x) => short(table, x.told),
