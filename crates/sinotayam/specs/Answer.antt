@@ -74,6 +74,6 @@ pub record Returned (w : Result) (before after : List ℕ) (r : ℕ) : Type 0 wh
   pub table : after ≡ tableOf before (w .rows)
 
 -- and the two words that a C call is lent for what is told
-pub record Tells (w : Result) (position need : ℕ) : Type 0 where
-  pub position : position ≡ w .told .position
-  pub need : need ≡ w .told .need
+pub record Tells (w : Result) (first second : ℕ) : Type 0 where
+  pub position : first ≡ w .told .position
+  pub need : second ≡ w .told .need

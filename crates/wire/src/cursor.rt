@@ -1,7 +1,7 @@
 // Where a reading stands in the data, and how it moves. Nothing is required of a position, an origin or a length: each test stands
 // before the sum that it allows, so nothing wraps, past the end too.
 ghost use mathlib.Core.Path.{_≡_};
-ghost use Prim.Native.Nat.{_+_, _<_, _≤_};
+ghost use Prim.Native.Nat.{_+_, _-_, _<_, _≤_};
 ghost use lib.ListN.{length};
 ghost use Rattle.wire.specs.Place.{cursorAt, broughtBack, inAWord, alignmentOf, gapOf, paddingOf, seekTo, alignTo};
 use crate::settings::Version;
@@ -69,18 +69,11 @@ impl Cursor {
         let pos = self.pos;
         let origin = self.origin;
         let end = s.len();
-        if end < pos {
-            let need = sum_in_a_word(pos - end, n);
+        let need = lack(pos, n, end);
+        if 0 < need {
             let told = Told {
                 position: pos,
                 need,
-            };
-            return Place::Short(Shortage { at: self, told });
-        }
-        if end - pos < n {
-            let told = Told {
-                position: pos,
-                need: n - (end - pos),
             };
             return Place::Short(Shortage { at: self, told });
         }
@@ -118,14 +111,20 @@ impl Cursor {
 // The most that a word holds.
 const MOST: usize = 18446744073709551615;
 
-// A sum, or the most that a word holds.
-fn sum_in_a_word(a: usize, b: usize) -> usize
-    ensures { λ r. ⌜ r ≡ inAWord (a + b) ⌝ }
+// The bytes of n from `pos` on that the data of so many lacks, or the most that a word holds: 0 where it has them all.
+fn lack(pos: usize, n: usize, end: usize) -> usize
+    ensures { λ r. ⌜ r ≡ inAWord (pos + n - end) ⌝ }
 {
-    if MOST - a < b {
-        return MOST;
+    if end < pos {
+        if MOST - (pos - end) < n {
+            return MOST;
+        }
+        return pos - end + n;
     }
-    a + b
+    if end - pos < n {
+        return n - (end - pos);
+    }
+    0
 }
 
 fn alignment_of(version: Version, size: usize) -> usize
