@@ -1,5 +1,7 @@
 // An answer as lines on standard output.
 ghost use mathlib.Core.Path.{_≡_};
+ghost use lib.Dec.{eqb};
+ghost use Rattle.sinotayam.specs.Answer.{codeOf};
 use libc::STDOUT_FILENO;
 use sinotayam::answer::Answer;
 use table::rows::row_at;
@@ -42,4 +44,20 @@ pub fn answer(a: Answer, table: &[u64]) -> usize
         i += 1;
     }
     i
+}
+
+// "told P N" of an answer 1: where the read that ran short began, and the bytes that it still needed. Nothing of another. Tells which.
+pub fn told(a: Answer) -> bool
+    ensures { λ r. ⌜ r ≡ eqb (codeOf (a .status)) 1 ⌝ }
+{
+    let status = a.status;
+    if !(status.code() == 1) {
+        return false;
+    }
+    text(b"told ");
+    number(a.told.position as u64);
+    text(b" ");
+    number(a.told.need as u64);
+    text(b"\n");
+    true
 }

@@ -48,9 +48,9 @@ pub settled-cleared : (t v : List ℕ) (n : Status) → v ≡ clearedFrom (width
 unfolding words
 settled-cleared t v n f = record { number = refl; count = refl; told = refl; table = f }
 
-pub settled-short : (t v : List ℕ) (told : Told) → v ≡ clearedFrom (width * 0) t → Settled (shortBy told) t v (record { status = NotEnoughData; rows = 0; told = told })
-unfolding words
-settled-short t v told f = record { number = refl; count = refl; told = refl; table = f }
+-- with what is told of it, a refusal is short
+pub settled-telling : (t v : List ℕ) (a : Answer) (told : Told) → Settled (refusedBy NotEnoughData) t v a → Settled (shortBy told) t v (record { status = a .status; rows = a .rows; told = told })
+settled-telling t v a told d = record { number = d .number; count = d .count; told = refl; table = d .table }
 
 -- over rows that are a variable: `rw` cannot rewrite m inside `(was-read h q) .new`, which is made from m
 settled-rows : (o : Outcome) (t u v : List ℕ) (e : Cursor) (m : ℕ) (rs : List Row) → o ≡ read e rs → m ≡ 0 + length rs → Filled t u 0 rs → v ≡ clearedFrom (width * m) u → Settled (resultOf o) t v (record { status = Read; rows = m; told = nothingTold })

@@ -71,24 +71,22 @@ pub fn refused(table: &mut [u64], status: Status) -> Answer
     ensures { λ r. ⌜ Settled (refusedBy status) (now (table .entry)) (now (table .exit)) r ⌝ }
 {
     clear_after(table, 0);
+    let told = Told {
+        position: 0,
+        need: 0,
+    };
     Answer {
         status,
         rows: 0,
-        told: Told {
-            position: 0,
-            need: 0,
-        },
+        told,
     }
 }
 
-// A read that ran short: the same, and what is told of it.
+// A read that ran short: refused, with what is told of it.
 pub fn short(table: &mut [u64], told: Told) -> Answer
     ensures { λ r. ⌜ Settled (shortBy told) (now (table .entry)) (now (table .exit)) r ⌝ }
 {
-    clear_after(table, 0);
-    Answer {
-        status: Status::NotEnoughData,
-        rows: 0,
-        told,
-    }
+    let mut a = refused(table, Status::NotEnoughData);
+    a.told = told;
+    a
 }
