@@ -1,10 +1,9 @@
 // An answer as lines on standard output.
 ghost use mathlib.Core.Path.{_≡_};
-ghost use lib.Dec.{eqb};
-ghost use Rattle.sinotayam.specs.Answer.{codeOf};
 use libc::STDOUT_FILENO;
 use sinotayam::answer::Answer;
 use table::rows::row_at;
+use wire::cursor::Told;
 
 fn number(n: u64) {
     io::print_decimal(STDOUT_FILENO, n);
@@ -46,18 +45,16 @@ pub fn answer(a: Answer, table: &[u64]) -> usize
     i
 }
 
-// "told P N" of an answer 1: where the read that ran short began, and the bytes that it still needed. Nothing of another. Tells which.
-pub fn told(a: Answer) -> bool
-    ensures { λ r. ⌜ r ≡ eqb (codeOf (a .status)) 1 ⌝ }
+// "told P N": where the read that ran short began, and the bytes that it still needed. Tells how many.
+pub fn told(x: Told) -> usize
+    ensures { λ r. ⌜ r ≡ x .need ⌝ }
 {
-    let status = a.status;
-    if !(status.code() == 1) {
-        return false;
-    }
+    let position = x.position;
+    let need = x.need;
     text(b"told ");
-    number(a.told.position as u64);
+    number(position as u64);
     text(b" ");
-    number(a.told.need as u64);
+    number(need as u64);
     text(b"\n");
-    true
+    need
 }

@@ -36,8 +36,10 @@ fn mode_of(mode: u8) -> Mode {
 fn say(book: &[u8], root: usize, message: &[u8], mode: u8, table: &mut [u64]) {
     let a = sinotayam::read(book, root, message, mode_of(mode), table);
     cases::lines::answer(a, table);
-    if 2 <= mode {
-        cases::lines::told(a);
+    // The need is over 0 where the answer is 1, and else 0.
+    let told = a.told;
+    if (2 <= mode) & (0 < told.need) {
+        cases::lines::told(told);
     }
 }
 
