@@ -41,7 +41,9 @@ object() { # REPO LOG
     cat >"$repo/crates/feed/src/main.rt" <<'END'
 fn main() {
     let mut table = [0u64; 4];
-    io::print_decimal(1, sinotayam::c::sinotayam_read(b"", 0, b"", 0, &mut table));
+    let mut position = 0u64;
+    let mut need = 0u64;
+    io::print_decimal(1, sinotayam::c::sinotayam_read(b"", 0, b"", 0, &mut table, &mut position, &mut need));
 }
 END
     printf 17 >"$repo/crates/feed/stdout"

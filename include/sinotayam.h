@@ -105,8 +105,10 @@ enum {
 /* No type: a record's element and a literal's type, where there is none. */
 #define SINOTAYAM_NO_TYPE 65535
 
-/* Reads a message of the book's type `root`, in the mode that `standard` says. Returns rows * 256 + number. The table holds the rows and then zeros; on a refusal it is all zero. */
-uint64_t sinotayam_read(const uint8_t *book, size_t book_len, uint16_t root, const uint8_t *message, size_t message_len, uint8_t standard, uint64_t *table, size_t words);
+/* Reads a message of the book's type `root`, in the mode that `standard` says. Returns rows * 256 + number. The table holds the rows and then zeros; on a refusal it is all zero.
+   Into *position and *need goes what is told of a 1: the place in the data where the read that ran short began, and how many bytes it still needed,
+   which is over 0. Of a message under 4 bytes they are 0 and 4 minus its length; for every other number both are 0. */
+uint64_t sinotayam_read(const uint8_t *book, size_t book_len, uint16_t root, const uint8_t *message, size_t message_len, uint8_t standard, uint64_t *table, size_t words, uint64_t *position, uint64_t *need);
 
 /* The record that stands for the book's head. */
 #define SINOTAYAM_HEAD 65535
@@ -133,7 +135,7 @@ uint8_t sinotayam_check(const uint8_t *book, size_t book_len, uint16_t root, uin
 uint8_t sinotayam_prepare(const uint8_t *book, size_t book_len, uint32_t *index, size_t index_len);
 
 /* The same as sinotayam_read, with an index for which sinotayam_prepare returned 0 on the same book: the book is not judged again. */
-uint64_t sinotayam_read_prepared(const uint8_t *book, size_t book_len, const uint32_t *index, size_t index_len, uint16_t root, const uint8_t *message, size_t message_len, uint8_t standard, uint64_t *table, size_t words);
+uint64_t sinotayam_read_prepared(const uint8_t *book, size_t book_len, const uint32_t *index, size_t index_len, uint16_t root, const uint8_t *message, size_t message_len, uint8_t standard, uint64_t *table, size_t words, uint64_t *position, uint64_t *need);
 
 /* Whether row number `row` of the table is a text whose place is inside the data, which is the message without its first four bytes: 0 or 15.
    Where it is 0, the text is the b bytes (kind 16) or 2 * b bytes (kind 17) from data + a on. */

@@ -3,7 +3,7 @@
 #[cfg(not(unproved))]
 mod c {
     extern "C" {
-        pub fn sinotayam_read(book: *const u8, bl: usize, root: u16, message: *const u8, ml: usize, standard: u8, table: *mut u64, words: usize) -> u64;
+        pub fn sinotayam_read(book: *const u8, bl: usize, root: u16, message: *const u8, ml: usize, standard: u8, table: *mut u64, words: usize, position: *mut u64, need: *mut u64) -> u64;
         pub fn sinotayam_prepare(book: *const u8, bl: usize, index: *mut u32, il: usize) -> u8;
         pub fn sinotayam_read_prepared(
             book: *const u8,
@@ -16,6 +16,8 @@ mod c {
             standard: u8,
             table: *mut u64,
             words: usize,
+            position: *mut u64,
+            need: *mut u64,
         ) -> u64;
     }
 }
@@ -27,13 +29,13 @@ mod c {
     pub struct Slice(*const u8, usize);
 
     extern "C" {
-        fn unproved_read(book: *const Slice, root: u16, message: *const Slice, standard: u8, table: *const Slice) -> u64;
+        fn unproved_read(book: *const Slice, root: u16, message: *const Slice, standard: u8, table: *const Slice, position: *mut u64, need: *mut u64) -> u64;
         fn unproved_prepare(book: *const Slice, index: *const Slice) -> u8;
-        fn unproved_read_prepared(book: *const Slice, index: *const Slice, root: u16, message: *const Slice, standard: u8, table: *const Slice) -> u64;
+        fn unproved_read_prepared(book: *const Slice, index: *const Slice, root: u16, message: *const Slice, standard: u8, table: *const Slice, position: *mut u64, need: *mut u64) -> u64;
     }
 
-    pub unsafe fn sinotayam_read(b: *const u8, bl: usize, root: u16, m: *const u8, ml: usize, standard: u8, t: *mut u64, tl: usize) -> u64 {
-        unproved_read(&Slice(b, bl), root, &Slice(m, ml), standard, &Slice(t as _, tl))
+    pub unsafe fn sinotayam_read(b: *const u8, bl: usize, root: u16, m: *const u8, ml: usize, standard: u8, t: *mut u64, tl: usize, position: *mut u64, need: *mut u64) -> u64 {
+        unproved_read(&Slice(b, bl), root, &Slice(m, ml), standard, &Slice(t as _, tl), position, need)
     }
 
     pub unsafe fn sinotayam_prepare(b: *const u8, bl: usize, i: *mut u32, il: usize) -> u8 {
@@ -51,13 +53,16 @@ mod c {
         standard: u8,
         t: *mut u64,
         tl: usize,
+        position: *mut u64,
+        need: *mut u64,
     ) -> u64 {
-        unproved_read_prepared(&Slice(b, bl), &Slice(i as _, il), root, &Slice(m, ml), standard, &Slice(t as _, tl))
+        unproved_read_prepared(&Slice(b, bl), &Slice(i as _, il), root, &Slice(m, ml), standard, &Slice(t as _, tl), position, need)
     }
 }
 
 pub fn read(book: &[u8], root: u16, message: &[u8], standard: u8, table: &mut [u64]) -> u64 {
-    unsafe { c::sinotayam_read(book.as_ptr(), book.len(), root, message.as_ptr(), message.len(), standard, table.as_mut_ptr(), table.len()) }
+    let (mut position, mut need) = (0, 0);
+    unsafe { c::sinotayam_read(book.as_ptr(), book.len(), root, message.as_ptr(), message.len(), standard, table.as_mut_ptr(), table.len(), &mut position, &mut need) }
 }
 
 pub fn prepare(book: &[u8], index: &mut [u32]) -> u8 {
@@ -65,6 +70,7 @@ pub fn prepare(book: &[u8], index: &mut [u32]) -> u8 {
 }
 
 pub fn read_prepared(book: &[u8], index: &[u32], root: u16, message: &[u8], standard: u8, table: &mut [u64]) -> u64 {
+    let (mut position, mut need) = (0, 0);
     unsafe {
         c::sinotayam_read_prepared(
             book.as_ptr(),
@@ -77,6 +83,8 @@ pub fn read_prepared(book: &[u8], index: &[u32], root: u16, message: &[u8], stan
             standard,
             table.as_mut_ptr(),
             table.len(),
+            &mut position,
+            &mut need,
         )
     }
 }

@@ -69,7 +69,7 @@ pub fn replies(said: &str) -> Vec<Reply> {
     for line in said.lines() {
         let words: Vec<u64> = line.split(' ').filter_map(|w| w.parse().ok()).collect();
         match words[..] {
-            [n, count] => all.push(Reply { number: n as u8, rows: Vec::new(), count, cleared: true, prepared: true, fault: None }),
+            [n, count] => all.push(Reply { number: n as u8, rows: Vec::new(), count, told: [0, 0], cleared: true, prepared: true, fault: None }),
             [kind, id, a, b, place] => all.last_mut().expect("an answer first").rows.push([kind, id, a, b, place]),
             [kind, id, a, b] => all.last_mut().expect("an answer first").rows.push([kind, id, a, b, UNTOLD]),
             _ => panic!("the stored output: {line}"),

@@ -91,6 +91,9 @@ pub fn differs(case: &Case, rules: &Reading, got: &Reply) -> Option<String> {
     if rules.number != got.number || rules.rows.len() as u64 != got.count {
         return Some(format!("the rules give {} with {} rows, the port {} with {}", rules.number, rules.rows.len(), got.number, got.count));
     }
+    if rules.told != got.told {
+        return Some(format!("{}: the rules tell {:?}, the port {:?}", got.number, rules.told, got.told));
+    }
     if let Some(at) = (0..rules.rows.len()).find(|i| rules.rows[*i] != got.rows[*i]) {
         return Some(format!("row {at}: the rules {:?}, the port {:?}", rules.rows[at], got.rows[at]));
     }
@@ -286,7 +289,11 @@ impl Run {
             }
         }
         for ((c, r, k), got) in asked.into_iter().zip(self.port.run(&batch)) {
-            let same = if k < r.needed { got.number == 13 && got.count == 0 } else { got.number == r.number && got.rows == r.rows };
+            let same = if k < r.needed {
+                got.number == 13 && got.count == 0 && got.told == [0, 0]
+            } else {
+                got.number == r.number && got.rows == r.rows && got.told == r.told
+            };
             self.tally.table(c.mode, k, r.needed);
             if !(same && got.cleared && got.prepared) {
                 self.differences += 1;

@@ -1,6 +1,6 @@
 // The port's program, run over a file of cases.
 use crate::book::Fault;
-use crate::rules::{Mode, Row};
+use crate::rules::{Mode, Row, Told};
 use std::io::Write;
 use std::process::{Command, Stdio};
 
@@ -9,6 +9,7 @@ pub struct Reply {
     pub number: u8,
     pub rows: Vec<Row>,
     pub count: u64,
+    pub told: Told,
     /// Zero after the last row, the whole table of a refusal too.
     pub cleared: bool,
     /// The prepared reading gave the same.
@@ -74,10 +75,11 @@ fn word(rest: &mut &[u8]) -> u64 {
 
 fn reply(rest: &mut &[u8]) -> Reply {
     let answer = word(rest);
+    let told = [word(rest), word(rest)];
     let marks = take(rest, 1)[0];
-    let told = u32::from_le_bytes(take(rest, 4).try_into().unwrap());
-    let fault = (told != 0).then_some(((told >> 8) as u16, told as u8));
+    let said = u32::from_le_bytes(take(rest, 4).try_into().unwrap());
+    let fault = (said != 0).then_some(((said >> 8) as u16, said as u8));
     let (number, count) = (answer as u8, answer >> 8);
     let rows = if number == 0 { (0..count).map(|_| std::array::from_fn(|_| word(rest))).collect() } else { Vec::new() };
-    Reply { number, rows, count, cleared: marks & 1 != 0, prepared: marks & 2 != 0, fault }
+    Reply { number, rows, count, told, cleared: marks & 1 != 0, prepared: marks & 2 != 0, fault }
 }

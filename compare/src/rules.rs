@@ -14,9 +14,12 @@ pub enum Mode {
     Standard,
 }
 
-/// Answer 1 may be absorbed; every other number ends the reading.
+/// What is told of a read that ran short: its position, and the bytes that it still needed. Of all else it is 0, 0.
+pub type Told = [u64; 2];
+
+/// Answer 1 may be absorbed, and then nothing is told of it; every other number ends the reading.
 enum Fail {
-    Short,
+    Short(Told),
     Refused(u8),
 }
 use Fail::{Refused, Short};
@@ -26,6 +29,7 @@ type Done<T> = Result<T, Fail>;
 pub struct Reading {
     pub number: u8,
     pub rows: Vec<Row>,
+    pub told: Told,
     /// The rows that a table must have room for, so that the reading does not end with 13.
     pub needed: usize,
     pub marks: Vec<&'static str>,
@@ -57,7 +61,7 @@ pub const TOO_MANY_STEPS: u8 = 255;
 const SENTINEL: u16 = 0x3f02;
 
 pub fn refused(number: u8) -> Reading {
-    Reading { number, rows: Vec::new(), needed: 0, marks: Vec::new() }
+    Reading { number, rows: Vec::new(), told: [0, 0], needed: 0, marks: Vec::new() }
 }
 
 /// Reads a message of a good book. `most` is the capacity.
@@ -69,7 +73,7 @@ pub fn read(types: &[Type], root: u16, message: &[u8], mode: Mode, most: usize) 
         return refused(10);
     }
     if message.len() < 4 {
-        return refused(1);
+        return Reading { told: [0, 4 - message.len() as u64], ..refused(1) };
     }
     if message[0] != 0 || !matches!(message[1], 0..=3 | 6..=11) {
         return refused(2);
@@ -88,15 +92,15 @@ pub fn read(types: &[Type], root: u16, message: &[u8], mode: Mode, most: usize) 
         steps: 0,
         marks: Vec::new(),
     };
-    let number = match r.nested(root, 0, 1) {
-        Ok(()) => 0,
-        Err(Short) => 1,
-        Err(Refused(n)) => n,
+    let (number, told) = match r.nested(root, 0, 1) {
+        Ok(()) => (0, [0, 0]),
+        Err(Short(told)) => (1, told),
+        Err(Refused(n)) => (n, [0, 0]),
     };
     if number != 0 {
         r.rows.clear();
     }
-    Reading { number, rows: r.rows, needed: r.needed, marks: r.marks }
+    Reading { number, rows: r.rows, told, needed: r.needed, marks: r.marks }
 }
 
 impl<'a> Reader<'a> {
@@ -135,13 +139,13 @@ impl<'a> Reader<'a> {
     fn delimited(&mut self, t: &Type, depth: usize) -> Done<()> {
         let n = match self.word() {
             // the crate does not hear of it where the union is Mutable
-            Err(Short) if !self.standard && t.kind == 23 && t.ext == MUTABLE => {
+            Err(Short(_)) if !self.standard && t.kind == 23 && t.ext == MUTABLE => {
                 self.mark("Mutable union's DHEADER unheard");
                 0
             }
-            Err(Short) => {
+            Err(Short(told)) => {
                 self.mark("DHEADER short");
-                return Err(Short);
+                return Err(Short(told));
             }
             other => other?,
         };
@@ -195,7 +199,7 @@ impl<'a> Reader<'a> {
         for m in &t.members {
             let kept = self.rows.len();
             match self.member(m, depth) {
-                Err(Short) if t.ext == APPENDABLE || m.construct == USE_DEFAULT => {
+                Err(Short(_)) if t.ext == APPENDABLE || m.construct == USE_DEFAULT => {
                     self.rows.truncate(kept);
                     self.mark(if t.ext == APPENDABLE { "ended early, Appendable" } else { "ended early, UseDefault" });
                     return Ok(());
@@ -255,7 +259,7 @@ impl<'a> Reader<'a> {
             Ok(Some(0)) => ("XCDR1 lookup, length 0", false),
             Ok(Some(_)) => ("XCDR1 lookup, found", true),
             Ok(None) => ("XCDR1 lookup, end marker", false),
-            Err(Short) => ("XCDR1 lookup, short", false),
+            Err(Short(_)) => ("XCDR1 lookup, short", false),
             Err(other) => return Err(other),
         };
         self.mark(mark);
@@ -285,7 +289,7 @@ impl<'a> Reader<'a> {
         let types = self.types;
         let (lc, n) = match self.seek2(m.id) {
             Ok(found) => found,
-            Err(Short) => {
+            Err(Short(_)) => {
                 self.mark("XCDR2 lookup, short");
                 return Ok(());
             }
@@ -320,7 +324,7 @@ impl<'a> Reader<'a> {
         let result = self.cut_at(end, |r| r.value(m, depth));
         match result {
             Ok(()) if self.pos < end => self.mark("member with bytes left"),
-            Err(Short) => self.mark("member short of its value"),
+            Err(Short(_)) => self.mark("member short of its value"),
             _ => {}
         }
         result

@@ -12,6 +12,8 @@ mod ffi {
             standard: u8,
             table: *mut u64,
             words: usize,
+            position: *mut u64,
+            need: *mut u64,
         ) -> u64;
         pub fn sinotayam_fault(book: *const u8, book_len: usize) -> u32;
         pub fn sinotayam_check(book: *const u8, book_len: usize, root: u16, only_xcdr2: u8) -> u8;
@@ -27,6 +29,8 @@ mod ffi {
             standard: u8,
             table: *mut u64,
             words: usize,
+            position: *mut u64,
+            need: *mut u64,
         ) -> u64;
         pub fn sinotayam_text(
             table: *const u64,
@@ -194,6 +198,27 @@ impl Row {
     }
 }
 
+/// Why a reading gave no rows: its number, and what is told of too few bytes.
+#[derive(Clone, Copy, Debug, PartialEq, Eq)]
+pub struct Failure {
+    pub refusal: Refusal,
+    /// Where in the data the read that ran short began; 0 for every other refusal.
+    pub position: u64,
+    /// How many bytes it still needed, over 0; 0 for every other refusal.
+    pub need: u64,
+}
+
+impl std::fmt::Display for Failure {
+    fn fmt(&self, f: &mut std::fmt::Formatter<'_>) -> std::fmt::Result {
+        match self.refusal {
+            Refusal::NotEnoughData => write!(f, "{}: short at byte {}, {} more needed", self.refusal, self.position, self.need),
+            other => other.fmt(f),
+        }
+    }
+}
+
+impl std::error::Error for Failure {}
+
 /// The rows of a finished reading, in the lent table.
 #[derive(Clone, Copy, Debug)]
 pub struct Rows<'t> {
@@ -244,11 +269,12 @@ pub fn data(message: &[u8]) -> &[u8] {
     message.get(4..).unwrap_or(&[])
 }
 
-/// What a call tells of the table that it is lent.
-fn told(table: &mut [u64], call: impl FnOnce(*mut u64, usize) -> u64) -> Result<Rows<'_>, Refusal> {
-    let word = call(table.as_mut_ptr(), table.len());
+/// What a call tells of the table that it is lent, and of a shortage.
+fn told(table: &mut [u64], call: impl FnOnce(*mut u64, usize, &mut u64, &mut u64) -> u64) -> Result<Rows<'_>, Failure> {
+    let (mut position, mut need) = (0, 0);
+    let word = call(table.as_mut_ptr(), table.len(), &mut position, &mut need);
     match Refusal::of_number(word as u8) {
-        Some(refusal) => Err(refusal),
+        Some(refusal) => Err(Failure { refusal, position, need }),
         None => Ok(Rows { words: &table[..(word >> 8) as usize * ROW] }),
     }
 }
@@ -260,10 +286,12 @@ pub fn read<'t>(
     message: &[u8],
     mode: Mode,
     table: &'t mut [u64],
-) -> Result<Rows<'t>, Refusal> {
-    // The pointers and lengths are those of live slices, and only the table is written, which nothing else borrows.
-    told(table, |t, words| unsafe {
-        ffi::sinotayam_read(book.as_ptr(), book.len(), root, message.as_ptr(), message.len(), mode as u8, t, words)
+) -> Result<Rows<'t>, Failure> {
+    // The pointers and lengths are those of live slices, and only the table and the two words are written, which nothing else borrows.
+    told(table, |t, words, position, need| unsafe {
+        ffi::sinotayam_read(
+            book.as_ptr(), book.len(), root, message.as_ptr(), message.len(), mode as u8, t, words, position, need,
+        )
     })
 }
 
@@ -302,13 +330,13 @@ impl<'b> Prepared<'b> {
         message: &[u8],
         mode: Mode,
         table: &'t mut [u64],
-    ) -> Result<Rows<'t>, Refusal> {
+    ) -> Result<Rows<'t>, Failure> {
         let (book, index) = (self.book, &self.index);
         // As in `read`.
-        told(table, |t, words| unsafe {
+        told(table, |t, words, position, need| unsafe {
             ffi::sinotayam_read_prepared(
                 book.as_ptr(), book.len(), index.as_ptr(), index.len(), root, message.as_ptr(), message.len(),
-                mode as u8, t, words,
+                mode as u8, t, words, position, need,
             )
         })
     }

@@ -36,7 +36,7 @@ fn example_1() {
 #[test]
 fn example_3_has_room_in_10_words() {
     let mut table = [7u64; 9];
-    assert_eq!(read(BOOK, 1, MESSAGE, Mode::Crate, &mut table).unwrap_err(), Refusal::NoRoom);
+    assert_eq!(read(BOOK, 1, MESSAGE, Mode::Crate, &mut table).unwrap_err().refusal, Refusal::NoRoom);
     assert_eq!(table, [0; 9]);
     assert!(read(BOOK, 1, MESSAGE, Mode::Crate, &mut [0u64; 10]).is_ok());
 }
@@ -56,14 +56,14 @@ fn example_12_is_a_text() {
 #[test]
 fn example_10_in_both_modes() {
     let mut table = [0u64; 64];
-    assert_eq!(read(LIST_BOOK, 2, LIST, Mode::Crate, &mut table).unwrap_err(), Refusal::NotEnoughData);
+    assert_eq!(read(LIST_BOOK, 2, LIST, Mode::Crate, &mut table).unwrap_err().refusal, Refusal::NotEnoughData);
     let values = |rows: sinotayam::Rows| rows.iter().skip(2).map(|r| r.a).collect::<Vec<_>>();
     let places = |rows: sinotayam::Rows| rows.iter().map(|r| r.place).collect::<Vec<_>>();
     assert_eq!(values(read(LIST_BOOK, 2, LIST, Mode::Standard, &mut table).unwrap()), [10, 11]);
     assert_eq!(places(read(LIST_BOOK, 2, LIST, Mode::Standard, &mut table).unwrap()), [0, 16, 16, 18]);
     let book = Prepared::new(LIST_BOOK).unwrap();
     assert_eq!(values(book.read(2, LIST, Mode::Standard, &mut table).unwrap()), [10, 11]);
-    assert_eq!(book.read(2, LIST, Mode::Crate, &mut table).unwrap_err(), Refusal::NotEnoughData);
+    assert_eq!(book.read(2, LIST, Mode::Crate, &mut table).unwrap_err().refusal, Refusal::NotEnoughData);
     // eight zero bytes more
     let longer = [LIST, &[0; 8]].concat();
     assert_eq!(values(read(LIST_BOOK, 2, &longer, Mode::Crate, &mut table).unwrap()), [2, 0, 10, 11, 0, 0, 0, 0]);
@@ -74,7 +74,7 @@ fn example_10_in_both_modes() {
 #[test]
 fn refusals_in_order() {
     let mut table = [7u64; 9];
-    let mut of = |book: &[u8], root, message: &[u8]| read(book, root, message, Mode::Crate, &mut table).unwrap_err();
+    let mut of = |book: &[u8], root, message: &[u8]| read(book, root, message, Mode::Crate, &mut table).unwrap_err().refusal;
     assert_eq!(of(&BOOK[1..], 2, &[]), Refusal::BookHead);
     assert_eq!(of(&[], 0, MESSAGE), Refusal::BookHead);
     assert_eq!(of(BOOK, 2, &[0; 65537]), Refusal::BadRoot);
@@ -110,13 +110,13 @@ fn prepared_reads_the_same() {
     for _ in 0..3 {
         assert_eq!(book.read(1, MESSAGE, Mode::Crate, &mut table).unwrap().iter().collect::<Vec<_>>(), rows());
     }
-    assert_eq!(book.read(2, MESSAGE, Mode::Crate, &mut table).unwrap_err(), Refusal::BadRoot);
+    assert_eq!(book.read(2, MESSAGE, Mode::Crate, &mut table).unwrap_err().refusal, Refusal::BadRoot);
     assert_eq!(Prepared::new(&BOOK[1..]).unwrap_err(), Refusal::BookHead);
 }
 
 #[test]
 fn an_empty_table_has_no_room() {
-    assert_eq!(read(BOOK, 1, MESSAGE, Mode::Crate, &mut []).unwrap_err(), Refusal::NoRoom);
+    assert_eq!(read(BOOK, 1, MESSAGE, Mode::Crate, &mut []).unwrap_err().refusal, Refusal::NoRoom);
 }
 
 #[test]
@@ -138,4 +138,22 @@ const ALIKE: &[u8] = b"\0\0\0\x35\x01\0\x02\
 fn two_ids_that_share_an_xcdr1_header() {
     assert_eq!(check(ALIKE, 1, Encodings::Any), Err(Refusal::Unfit));
     assert_eq!(check(ALIKE, 1, Encodings::OnlyXcdr2), Ok(()));
+}
+
+#[test]
+fn a_shortage_tells_its_position_and_need() {
+    let mut table = [0u64; 64];
+    let mut of = |book: &[u8], root, message: &[u8], mode| {
+        let f = read(book, root, message, mode, &mut table).unwrap_err();
+        (f.refusal as u8, f.position, f.need)
+    };
+    // example 2; example 10, whose fifth element would stand behind the data; a message under 4 bytes
+    assert_eq!(of(BOOK, 1, &MESSAGE[..7], Mode::Crate), (1, 0, 1));
+    assert_eq!(of(LIST_BOOK, 2, LIST, Mode::Crate), (1, 20, 2));
+    assert_eq!(of(BOOK, 1, &MESSAGE[..3], Mode::Standard), (1, 0, 1));
+    // nothing is told of another refusal
+    assert_eq!(of(BOOK, 2, &MESSAGE[..7], Mode::Crate), (9, 0, 0));
+    let book = Prepared::new(BOOK).unwrap();
+    let f = book.read(1, &MESSAGE[..6], Mode::Standard, &mut table).unwrap_err();
+    assert_eq!(f.to_string(), "NotEnoughData (1): short at byte 0, 2 more needed");
 }

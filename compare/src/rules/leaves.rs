@@ -40,7 +40,7 @@ impl Reader<'_> {
     pub(super) fn seek(&mut self, n: usize) -> Done<()> {
         self.step()?;
         if self.pos + n > self.data.len() {
-            return Err(Short);
+            return Err(Short([self.pos as u64, (self.pos + n - self.data.len()) as u64]));
         }
         self.pos += n;
         Ok(())

@@ -3,6 +3,7 @@ ghost use mathlib.Core.Path.{_≡_};
 use libc::STDOUT_FILENO;
 use sinotayam::answer::Answer;
 use table::rows::row_at;
+use wire::cursor::Told;
 
 fn number(n: u64) {
     io::print_decimal(STDOUT_FILENO, n);
@@ -44,4 +45,18 @@ pub fn answer(a: Answer, table: &[u64]) -> usize
         i += 1;
     }
     i
+}
+
+// "told P N": where the read that ran short began, and the bytes that it still needed. Tells how many.
+pub fn told(x: Told) -> usize
+    ensures { λ r. ⌜ r ≡ x .need ⌝ }
+{
+    let position = x.position;
+    let need = x.need;
+    text(b"told ");
+    number(position as u64);
+    text(b" ");
+    number(need as u64);
+    text(b"\n");
+    need
 }

@@ -14,9 +14,12 @@ pub mod Measuring
 pub mod Checking
 pub mod Demand3
 pub mod Headers
+pub mod Claims
 pub mod Standing
 pub mod Searches
+pub mod Walk
 pub mod Within
+pub mod Told
 pub mod Room
 pub mod Needed
 pub mod Bigger

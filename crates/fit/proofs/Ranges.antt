@@ -30,7 +30,7 @@ use Rattle.fit.proofs.KindTests.{kind-each}
 -- ---- w bytes spell a number below 256 ^ w
 
 module _ (s : List ℕ) (bytes : AreBytes s) where
-  below : (o : ByteOrder) (w k v p : ℕ) → v < 256 ^ k → numberAt o v s p w < 256 ^ (k + w)
+  pub below : (o : ByteOrder) (w k v p : ℕ) → v < 256 ^ k → numberAt o v s p w < 256 ^ (k + w)
   unfolding numberAt
   below BigEndian zero k v p h = rw add-zero h
   below BigEndian (suc w) k v p h =

@@ -4,4 +4,5 @@ pub mod Code
 pub mod Check
 pub mod Demand3
 pub mod Within
+pub mod Told
 pub mod Room

@@ -2,7 +2,7 @@
 use Prim.Native.Nat.{ℕ}
 use mathlib.Core.Path.{_≡_, refl}
 use mathlib.Core.List.{List, [], _∷_, _++_}
-use Rattle.wire.specs.Place.{cursorAt, shortAt, alignmentOf, paddingOf, seekTo, alignTo, afterMove}
+use Rattle.wire.specs.Place.{cursorAt, shortage, alignmentOf, paddingOf, seekTo, alignTo, afterMove}
 use Rattle.wire.specs.Number.{numberAt, onBytes, numberHere, onAligned, readNumber, afterNumber}
 use Rattle.wire.specs.Identifier.{settings}
 use Rattle.wire.specs.declared.settings.Mode.the-variants.{Crate, Standard}
@@ -93,7 +93,7 @@ ends s = dheaderAt s le2 start
 example-8 :
     (locates data8 le1 1 start ≡ located.Found 2 (cursorAt 4 4) start)
     × (seeksSentinel data8 start ≡ place.At (cursorAt 12 0))
-    × (seeksSentinel one start ≡ place.Short (shortAt (cursorAt 8 0)))
+    × (seeksSentinel one start ≡ place.Short (shortage (cursorAt 8 0) 8 2))
 unfolding locates seeksSentinel
 example-8 = (refl, refl, refl)
 
@@ -121,7 +121,7 @@ example-12 = (refl, refl)
 -- XCDR1, an id that is not there: the marker ends the search, or the data does; the member is absent in both
 another-id :
     (seeks1 data8 2 ≡ seek.PidNotFound)
-    × (seeks1 one 2 ≡ seek.Short (shortAt (cursorAt 8 0)))
+    × (seeks1 one 2 ≡ seek.Short (shortage (cursorAt 8 0) 8 2))
     × (locates data8 le1 2 start ≡ located.Absent start)
     × (locates one le1 2 start ≡ located.Absent start)
 unfolding seeks1 locates
@@ -136,7 +136,7 @@ marker-cut = refl
 ids-cut :
     (seeks1 (flagged ++ end) 65541 ≡ seek.Found 2 (cursorAt 4 0))
     × (seeks1 (flagged ++ end) 16389 ≡ seek.PidNotFound)
-    × (seeks2 (four 0x05 0x00 0x00 0x20 ++ end) 65541 ≡ seek.Short (shortAt (cursorAt 8 0)))
+    × (seeks2 (four 0x05 0x00 0x00 0x20 ++ end) 65541 ≡ seek.Short (shortage (cursorAt 8 0) 8 4))
 unfolding seeks1 seeks2
 ids-cut = (refl, refl, refl)
 
@@ -150,7 +150,7 @@ length-0 = (refl, refl)
 -- the place after the first align comes back; where that is short, so is the member
 first-align :
     (locates (four 0x00 0x00 0x00 0x00 ++ one) le1 1 (cursorAt 1 0) ≡ located.Found 2 (cursorAt 8 8) (cursorAt 4 0))
-    × (locates (0x00 ∷ 0x00 ∷ []) le1 1 (cursorAt 1 0) ≡ located.Short (shortAt (cursorAt 1 0)))
+    × (locates (0x00 ∷ 0x00 ∷ []) le1 1 (cursorAt 1 0) ≡ located.Short (shortage (cursorAt 1 0) 1 2))
 unfolding locates
 first-align = (refl, refl)
 
@@ -191,7 +191,7 @@ passed-over = (refl, refl)
 
 -- a matching header whose NEXTINT is missing is a failed lookup
 no-nextint :
-    (seeks2 (four 0x01 0x00 0x00 0x40) 1 ≡ seek.Short (shortAt (cursorAt 4 0)))
+    (seeks2 (four 0x01 0x00 0x00 0x40) 1 ≡ seek.Short (shortage (cursorAt 4 0) 4 4))
     × (locates (four 0x01 0x00 0x00 0x40) le2 1 start ≡ located.Absent start)
 unfolding seeks2 locates
 no-nextint = (refl, refl)

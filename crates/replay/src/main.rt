@@ -1,7 +1,7 @@
 // Reads a list from standard input and prints the answer and the rows of each entry. It reads an entry at a time: an array for the whole list
-// is longer than the checker follows. An entry is the mode, a byte (0 the crate's, 1 the standard's), the number of rows of the table, u16, and a
-// case as `rows` takes it: the book, the root, the message's length, the message. A message that `rows` would not take is read here too, and
-// answered.
+// is longer than the checker follows. An entry is the mode, a byte (0 the crate's, 1 the standard's; 2 and 3 are these, with a line more for what
+// is told of answer 1), the number of rows of the table, u16, and a case as `rows` takes it: the book, the root, the message's length, the
+// message. A message that `rows` would not take is read here too, and answered.
 // The stored list begins with 200 messages of Cyclone DDS and Fast-CDR, whose rows are known from the samples that they wrote: 102 entries in
 // the crate's mode, and all 200 in the standard's. The entries after them, and what is said of them, `compare/sample` wrote (no words after it)
 // from the crate dust_dds and from the rules in plain Rust; the port took no part in it.
@@ -25,16 +25,22 @@ fn filled(part: &mut [u8]) -> bool {
     io::read_full(0, part) == part.len()
 }
 
-fn mode_of(standard: u8) -> Mode {
-    match standard {
+fn mode_of(mode: u8) -> Mode {
+    match mode {
         0 => Mode::Crate,
+        2 => Mode::Crate,
         _ => Mode::Standard,
     }
 }
 
-fn say(book: &[u8], root: usize, message: &[u8], standard: u8, table: &mut [u64]) {
-    let a = sinotayam::read(book, root, message, mode_of(standard), table);
+fn say(book: &[u8], root: usize, message: &[u8], mode: u8, table: &mut [u64]) {
+    let a = sinotayam::read(book, root, message, mode_of(mode), table);
     cases::lines::answer(a, table);
+    // The need is over 0 where the answer is 1, and else 0.
+    let told = a.told;
+    if (2 <= mode) & (0 < told.need) {
+        cases::lines::told(told);
+    }
 }
 
 // Reads the message with the first `rows` rows of the table; false where it has fewer.
@@ -42,7 +48,7 @@ fn read(
     book: &[u8],
     root: usize,
     message: &[u8],
-    standard: u8,
+    mode: u8,
     table: &mut [u64],
     rows: usize,
 ) -> bool {
@@ -50,13 +56,13 @@ fn read(
         return false;
     }
     let words = rows * WIDTH;
-    say(book, root, message, standard, &mut table[0..words]);
+    say(book, root, message, mode, &mut table[0..words]);
     true
 }
 
 // Reads the rest of the entry whose first seven bytes stand in buf, and its message; false where it is no whole entry.
 fn entry(buf: &mut [u8], table: &mut [u64]) -> bool {
-    let standard = byte_at(buf, 0, 0) as u8;
+    let mode = byte_at(buf, 0, 0) as u8;
     let rows = pair_at(buf, 1, 0);
     let book = quad_at(buf, 3, 0) as usize + 3;
     let start = book + 6;
@@ -74,7 +80,7 @@ fn entry(buf: &mut [u8], table: &mut [u64]) -> bool {
     if !filled(&mut buf[start..end]) {
         return false;
     }
-    read(&buf[3..book], root, &buf[start..end], standard, table, rows)
+    read(&buf[3..book], root, &buf[start..end], mode, table, rows)
 }
 
 // Reads one entry, if there is one more; false where the list is at its end, or has no whole entry there.

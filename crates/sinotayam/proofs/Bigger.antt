@@ -7,6 +7,7 @@ use mathlib.Core.List.{List}
 use native.Mathlib.Omega.{arith}
 use lib.Dec.{eqb, leb, ltb}
 use lib.ListN.{length, getD, drop}
+use Rattle.wire.specs.declared.cursor.Told.{Told}
 use Rattle.wire.specs.declared.settings.Mode.{Mode}
 use Rattle.wire.specs.declared.settings.Representation.{Representation}
 use Rattle.wire.specs.declared.settings.Representation.the-variants.{Known, Unknown}
@@ -25,8 +26,8 @@ use Rattle.fit.proofs.Bigger.{bigger-table, some-table}
 use Rattle.sinotayam.specs.declared.answer.Status.{Status}
 use Rattle.sinotayam.specs.declared.answer.Status.the-variants.{Read, NotEnoughData, InvalidData, InvalidType, NotPrepared, BadRoot, TooLong, Unsupported, TooDeep, NoRoom, NoDiscriminator, BadBook}
 use Rattle.sinotayam.specs.declared.answer.Answer.{Answer}
-use Rattle.sinotayam.specs.Answer.{Result, codeOf, refusedBy, resultOf, Settled, Returned}
-use Rattle.sinotayam.specs.Entry.{refusedIf, byIdentifier, messageBy, dataBy, byFault, withBook, readOf, readDataOf}
+use Rattle.sinotayam.specs.Answer.{Result, codeOf, refusedBy, shortBy, resultOf, Settled, Returned}
+use Rattle.sinotayam.specs.Entry.{refusedIf, shortIf, underFour, byIdentifier, messageBy, dataBy, byFault, withBook, readOf, readDataOf}
 use Rattle.sinotayam.specs.Prepared.{placesIn, typesIn, withIndex, readPrepared, readDataPrepared}
 use Rattle.sinotayam.specs.Room.{Listed, Steady, SameCall, SameWord}
 use Rattle.sinotayam.proofs.Numbers.{listed-not-four}
@@ -42,6 +43,12 @@ steady-if : (t : Bool) (n : Status) (next : ℕ → Result) → Steady (λ room.
 unfolding refusedIf
 steady-if true n next p q = p
 steady-if false n next p q = q
+
+-- a message that is too short is so with every table
+steady-short : (t : Bool) (told : Told) (next : ℕ → Result) → Steady next → Steady (λ room. shortIf t told (next room))
+unfolding shortIf codeOf
+steady-short true told next q = record { same = λ few more h o. refl; some = (0, λ more h e. omega arith); listed = λ room. (NotEnoughData, refl) }
+steady-short false told next q = q
 
 outcome-listed : (o : Outcome) → Listed (numberOf o)
 unfolding numberOf refusalNumber codeOf
@@ -74,7 +81,7 @@ module _ (types : List BookType) (root : ℕ) where
   steady-message message mode =
       steady-if (leb (length types) root) BadRoot _ (steady-refused BadRoot (λ e. omega arith))
       (steady-if (ltb 65536 (length message)) TooLong _ (steady-refused TooLong (λ e. omega arith))
-      (steady-if (ltb (length message) 4) NotEnoughData _ (steady-refused NotEnoughData (λ e. omega arith))
+      (steady-short (ltb (length message) 4) (underFour (length message)) _
       (steady-identifier (drop 4 message) (settingsOf mode (getD message 0 0) (getD message 1 0)))))
 
   steady-data : (id s : List ℕ) (mode : Mode) → Steady (λ room. dataBy types root id s mode room)
@@ -122,7 +129,7 @@ module _ (answer : ℕ → Result) (steady : Steady answer) (lent after larger a
   call-bigger r q d e n =
       let w : answer (capacity larger) ≡ answer (capacity lent) = steady .same (capacity lent) (capacity larger) wider (λ z. n (d .number ∙ z)) in
       let f : Settled (answer (capacity lent)) larger afterLarger q = rw w at e in
-      record { answer = one-answer q r (f .number ∙ sym (d .number)) (f .count ∙ sym (d .count)); rows = (answer (capacity lent) .rows, d .count, d .table, f .table) }
+      record { answer = one-answer q r (f .number ∙ sym (d .number)) (f .count ∙ sym (d .count)) (f .told ∙ sym (d .told)); rows = (answer (capacity lent) .rows, d .count, d .table, f .table) }
 
   pub word-bigger : (r q : ℕ) → Returned (answer (capacity lent)) lent after r → Returned (answer (capacity larger)) larger afterLarger q → (r % 256 ≡ 13 → ⊥) → SameWord lent after r larger afterLarger q
   word-bigger r q d e n =

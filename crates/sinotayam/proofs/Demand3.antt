@@ -8,6 +8,7 @@ use lib.Dec.{leb, ltb}
 use lib.ListN.{length, getD, drop, length-drop}
 use lib.Seq.{getD-drop}
 use borrow.Author.Tests.{ltb-true, lt-leb}
+use Rattle.wire.specs.declared.cursor.Told.{Told}
 use Rattle.wire.specs.declared.settings.Mode.{Mode}
 use Rattle.wire.specs.declared.settings.Representation.{Representation}
 use Rattle.wire.specs.declared.settings.Representation.the-variants.{Known, Unknown}
@@ -20,10 +21,10 @@ use Rattle.fit.specs.Check.{checkOf}
 use Rattle.fit.specs.Demand3.{AreBytes, Checked, fit, bad-book, bad-root, unfit, finished-reading, too-few-bytes, invalid-data, full-table, absent-discriminator}
 use Rattle.fit.proofs.Demand3.{check-says, demand-3}
 use Rattle.sinotayam.specs.declared.answer.Status.{Status}
-use Rattle.sinotayam.specs.declared.answer.Status.the-variants.{NotEnoughData, InvalidData, BadRoot, TooLong}
+use Rattle.sinotayam.specs.declared.answer.Status.the-variants.{InvalidData, BadRoot, TooLong}
 use Rattle.sinotayam.specs.declared.answer.Answer.{Answer}
-use Rattle.sinotayam.specs.Answer.{Result, codeOf, refusedBy, resultOf, Settled, Returned}
-use Rattle.sinotayam.specs.Entry.{refusedIf, byIdentifier, messageBy, dataBy, byFault, withBook, readOf, readDataOf}
+use Rattle.sinotayam.specs.Answer.{Result, codeOf, refusedBy, shortBy, resultOf, Settled, Returned}
+use Rattle.sinotayam.specs.Entry.{refusedIf, shortIf, underFour, byIdentifier, messageBy, dataBy, byFault, withBook, readOf, readDataOf}
 use Rattle.sinotayam.specs.Prepared.{prepareOf, preparedFrom, readPrepared, readDataPrepared}
 use Rattle.sinotayam.specs.Demand3.{CallNumber, of-reading, over-limit, Safe, SafeCall, SafeWord}
 use Rattle.sinotayam.proofs.Preparing.{prepared-same}
@@ -37,6 +38,12 @@ module _ (book s : List ℕ) (root : ℕ) where
   unfolding refusedIf
   by-refused true n next p q = p refl
   by-refused false n next p q = q refl
+
+  -- a message that is too short tells of no row
+  by-short : (t : Bool) (told : Told) (next : Result) → Safe book s root next → Safe book s root (shortIf t told next)
+  unfolding shortIf codeOf
+  by-short true told next q = record { number = of-reading too-few-bytes; rows = λ e. absurd (omega arith) }
+  by-short false told next q = q
 
   too-long : (t : Bool) (next : Result) → (t ≡ true → 65532 < length s) → Safe book s root next → Safe book s root (refusedIf t TooLong next)
   unfolding codeOf
@@ -73,8 +80,8 @@ module _ (book : List ℕ) (root room : ℕ) (mode : Mode) (only : Bool) (passes
       let long : ltb 65536 (length message) ≡ true → 65532 < length (drop 4 message) = λ e. simp length-drop (omega (arith, ltb-true 65536 (length message) e)) in
       taken book s root _ only (checkOf book root only) (check-says book root only) passes
       (too-long book s root (ltb 65536 (length message)) _ long
-      (by-refused book s root (ltb (length message) 4) NotEnoughData _ (λ e. before book s root NotEnoughData (of-reading too-few-bytes) (λ z. omega arith)) (λ e.
-      identified book s root (data-bytes message bytes) room only (settingsOf mode (getD message 0 0) (getD message 1 0)) passes)))
+      (by-short book s root (ltb (length message) 4) (underFour (length message)) _
+      (identified book s root (data-bytes message bytes) room only (settingsOf mode (getD message 0 0) (getD message 1 0)) passes)))
 
   -- all data
   pub data-demand-3 : (id s : List ℕ) → AreBytes s → Safe book s root (readDataOf book root id s mode room)

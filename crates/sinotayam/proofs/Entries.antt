@@ -14,10 +14,10 @@ use Rattle.wire.specs.Identifier.{settingsOf}
 use Rattle.book.specs.Types.{BookType}
 use Rattle.book.specs.Places.{typesBy}
 use Rattle.reader.specs.Nested.{reading}
-use Rattle.sinotayam.specs.declared.answer.Status.the-variants.{NotEnoughData, InvalidData, BadRoot, TooLong}
+use Rattle.sinotayam.specs.declared.answer.Status.the-variants.{InvalidData, BadRoot, TooLong}
 use Rattle.sinotayam.specs.declared.answer.Answer.{Answer}
-use Rattle.sinotayam.specs.Answer.{refusedBy, resultOf, Settled}
-use Rattle.sinotayam.specs.Entry.{refusedIf, byIdentifier, messageBy, dataBy}
+use Rattle.sinotayam.specs.Answer.{refusedBy, shortBy, resultOf, Settled}
+use Rattle.sinotayam.specs.Entry.{refusedIf, shortIf, underFour, byIdentifier, messageBy, dataBy}
 use Rattle.sinotayam.proofs.Settling.{settled-same}
 
 -- by the identifier
@@ -45,14 +45,14 @@ module _ (b places : List ℕ) (root : ℕ) (message : List ℕ) (mode : Mode) (
   unfolding messageBy refusedIf
   message-long h k d = settled-same (rw (length-types b places, lt-leb (length places) root h, lt-ltb 65536 (length message) k)) d
 
-  pub message-under : root < length places → length message ≤ 65536 → length message < 4 → Settled (refusedBy NotEnoughData) t v r → Settled (messageBy (typesBy b places) root message mode room) t v r
-  unfolding messageBy refusedIf
+  pub message-under : root < length places → length message ≤ 65536 → length message < 4 → Settled (shortBy (underFour (length message))) t v r → Settled (messageBy (typesBy b places) root message mode room) t v r
+  unfolding messageBy refusedIf shortIf
   message-under h k l d =
       settled-same (rw (length-types b places, lt-leb (length places) root h, le-ltb 65536 (length message) k, lt-ltb (length message) 4 l)) d
 
   -- the code lends the message from its fifth byte to its end
   pub message-rest : root < length places → length message ≤ 65536 → 4 ≤ length message → Settled (byIdentifier (typesBy b places) root (take (length message - 4) (drop 4 message)) room (settingsOf mode (getD message 0 0) (getD message 1 0))) t v r → Settled (messageBy (typesBy b places) root message mode room) t v r
-  unfolding messageBy refusedIf
+  unfolding messageBy refusedIf shortIf
   message-rest h k l d =
       let e : take (length message - 4) (drop 4 message) ≡ drop 4 message = take-all (length message - 4) (drop 4 message) (simp length-drop (omega arith)) in
       settled-same (rw (length-types b places, lt-leb (length places) root h, le-ltb 65536 (length message) k, le-ltb (length message) 4 l)) (rw e at d)

@@ -7,6 +7,7 @@ pub mod OneOutcome
 pub mod Demand3
 pub mod Numbers
 pub mod Bigger
+pub mod Telling
 pub mod Never4
 pub mod TextRows
 mod Examples

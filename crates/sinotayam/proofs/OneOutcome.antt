@@ -4,6 +4,7 @@ use mathlib.Core.Path.{_≡_, refl, sym, ap, _∙_}
 use mathlib.Core.List.{List}
 use lib.Dec.{eqb}
 use Rattle.ground.specs.Choice.{pick}
+use Rattle.wire.specs.declared.cursor.Told.{Told}
 use Rattle.book.specs.declared.fault.Reason.{Reason}
 use Rattle.book.specs.declared.fault.Reason.the-variants.{Head, RecordLength, CodeRange, TypeLink, Bound, MemberList, FirstMember}
 use Rattle.book.specs.Fault.{reasonNumber}
@@ -51,13 +52,13 @@ answer-back (BadBook FirstMember) = refl
 pub one-number : (m n : Status) → codeOf m ≡ codeOf n → m ≡ n
 one-number m n e = sym (answer-back m) ∙ ap answerOf e ∙ answer-back n
 
-same-fields : (m n : Status) (j k : ℕ) → m ≡ n → j ≡ k → _≡_ {A = Answer} (record { status = m; rows = j }) (record { status = n; rows = k })
-same-fields m n j k e f = rw (e, f)
+same-fields : (m n : Status) (j k : ℕ) (x y : Told) → m ≡ n → j ≡ k → x ≡ y → _≡_ {A = Answer} (record { status = m; rows = j; told = x }) (record { status = n; rows = k; told = y })
+same-fields m n j k x y e f g = rw (e, f, g)
 
--- nor do two that tell of as many rows
-pub one-answer : (q r : Answer) → codeOf (q .status) ≡ codeOf (r .status) → q .rows ≡ r .rows → q ≡ r
-one-answer q r e f = same-fields (q .status) (r .status) (q .rows) (r .rows) (one-number (q .status) (r .status) e) f
+-- nor do two that tell of as many rows and of the same shortage
+pub one-answer : (q r : Answer) → codeOf (q .status) ≡ codeOf (r .status) → q .rows ≡ r .rows → q .told ≡ r .told → q ≡ r
+one-answer q r e f g = same-fields (q .status) (r .status) (q .rows) (r .rows) (q .told) (r .told) (one-number (q .status) (r .status) e) f g
 
 -- two outcomes that the promise of a reading call allows are the same
 pub one-outcome : (w : Result) (t u v : List ℕ) (q r : Answer) → Settled w t u q → Settled w t v r → (q ≡ r) × (u ≡ v)
-one-outcome w t u v q r d e = (one-answer q r (d .number ∙ sym (e .number)) (d .count ∙ sym (e .count)), d .table ∙ sym (e .table))
+one-outcome w t u v q r d e = (one-answer q r (d .number ∙ sym (e .number)) (d .count ∙ sym (e .count)) (d .told ∙ sym (e .told)), d .table ∙ sym (e .table))

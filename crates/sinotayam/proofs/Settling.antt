@@ -6,6 +6,7 @@ use native.Mathlib.Nat.{sub-zero}
 use native.Mathlib.Omega.{arith}
 use lib.ListN.{length, replicate}
 use Rattle.wire.specs.declared.cursor.Cursor.{Cursor}
+use Rattle.wire.specs.declared.cursor.Told.{Told}
 use Rattle.wire.specs.declared.cursor.Shortage.{Shortage}
 use Rattle.wire.specs.declared.settings.Settings.{Settings}
 use Rattle.book.specs.Types.{BookType}
@@ -15,7 +16,7 @@ use Rattle.table.specs.declared.out.Out.{Out}
 use Rattle.table.specs.declared.out.Out.the-variants as out
 use Rattle.table.specs.Rows.{width, words, capacity, room}
 use Rattle.table.specs.Code.Rows.{clearedFrom, Filled}
-use Rattle.table.specs.Outcome.{Outcome, read, refused, refusalNumber, numberOf, rowsOf}
+use Rattle.table.specs.Outcome.{Outcome, read, short, refused, refusalNumber, numberOf, nothingTold, toldOf, rowsOf}
 use Rattle.table.specs.Code.Outcome.{Done}
 use Rattle.table.proofs.Filling.{filled-fits}
 use Rattle.table.proofs.Outcomes.{was-read, was-short, was-refused}
@@ -23,34 +24,43 @@ use Rattle.reader.specs.Nested.{reading}
 use Rattle.sinotayam.specs.declared.answer.Status.{Status}
 use Rattle.sinotayam.specs.declared.answer.Status.the-variants.{Read, NotEnoughData}
 use Rattle.sinotayam.specs.declared.answer.Answer.{Answer}
-use Rattle.sinotayam.specs.Answer.{codeOf, Result, refusedBy, resultOf, Settled}
+use Rattle.sinotayam.specs.Answer.{codeOf, Result, refusedBy, shortBy, resultOf, Settled}
 
 -- a refused reading is refused by the number that stands for its reason
 refused-as : (n : Status) (k : Refusal) → codeOf n ≡ refusalNumber k → resultOf (refused k) ≡ refusedBy n
-unfolding resultOf numberOf rowsOf
+unfolding resultOf numberOf rowsOf toldOf
 refused-as n k e = rw e
+
+-- and one that ran short is short, with what is told of it
+short-as : (x : Shortage) → resultOf (short x) ≡ shortBy (x .told)
+unfolding resultOf numberOf rowsOf toldOf codeOf
+short-as x = refl
 
 -- the same result, said in another way
 pub settled-same : {w x : Result} {t v : List ℕ} {r : Answer} → w ≡ x → Settled x t v r → Settled w t v r
 settled-same e d = rw e d
 
 -- a table as long
-pub settled-long : (n : Status) (t u : List ℕ) {v : List ℕ} {r : Answer} → length u ≡ length t → Settled (refusedBy n) u v r → Settled (refusedBy n) t v r
-unfolding words
-settled-long n t u e d = record { number = d .number; count = d .count; table = rw e at (d .table) }
+pub settled-long : (w : Result) (t u : List ℕ) {v : List ℕ} {r : Answer} → length u ≡ length t → Settled w u v r → Settled w t v r
+settled-long w t u e d = record { number = d .number; count = d .count; told = d .told; table = rw e at (d .table) }
 
-pub settled-cleared : (t v : List ℕ) (n : Status) → v ≡ clearedFrom (width * 0) t → Settled (refusedBy n) t v (record { status = n; rows = 0 })
+pub settled-cleared : (t v : List ℕ) (n : Status) → v ≡ clearedFrom (width * 0) t → Settled (refusedBy n) t v (record { status = n; rows = 0; told = nothingTold })
 unfolding words
-settled-cleared t v n f = record { number = refl; count = refl; table = f }
+settled-cleared t v n f = record { number = refl; count = refl; told = refl; table = f }
+
+-- with what is told of it, a refusal is short
+pub settled-telling : (t v : List ℕ) (a : Answer) (told : Told) → Settled (refusedBy NotEnoughData) t v a → Settled (shortBy told) t v (record { status = a .status; rows = a .rows; told = told })
+settled-telling t v a told d = record { number = d .number; count = d .count; told = refl; table = d .table }
 
 -- over rows that are a variable: `rw` cannot rewrite m inside `(was-read h q) .new`, which is made from m
-settled-rows : (o : Outcome) (t u v : List ℕ) (e : Cursor) (m : ℕ) (rs : List Row) → o ≡ read e rs → m ≡ 0 + length rs → Filled t u 0 rs → v ≡ clearedFrom (width * m) u → Settled (resultOf o) t v (record { status = Read; rows = m })
-unfolding resultOf numberOf rowsOf codeOf
+settled-rows : (o : Outcome) (t u v : List ℕ) (e : Cursor) (m : ℕ) (rs : List Row) → o ≡ read e rs → m ≡ 0 + length rs → Filled t u 0 rs → v ≡ clearedFrom (width * m) u → Settled (resultOf o) t v (record { status = Read; rows = m; told = nothingTold })
+unfolding resultOf numberOf rowsOf toldOf codeOf
 settled-rows o t u v e m rs p q f g =
     let k : m ≡ length rs = omega arith in
     record {
       number = rw p;
       count = rw p k;
+      told = rw p;
       table = rw (p, g, k, f .long) (ap (λ (l : List ℕ). l ++ replicate (length t - width * length rs) 0) (f .rows));
     }
 
@@ -65,16 +75,15 @@ module _ (types : List BookType) (s : List ℕ) (set : Settings) (root : ℕ) (t
       let f : width * length (w .new) ≤ length t - width * 0 = filled-fits (w .filled) in
       omega (arith, w .count, w .filled .long)
 
-  pub whole-read : (e : Cursor) (m : ℕ) (v : List ℕ) → r ≡ out.Read e m → v ≡ clearedFrom (width * m) u → Settled (resultOf (reading types s set root (capacity t))) t v (record { status = Read; rows = m })
+  pub whole-read : (e : Cursor) (m : ℕ) (v : List ℕ) → r ≡ out.Read e m → v ≡ clearedFrom (width * m) u → Settled (resultOf (reading types s set root (capacity t))) t v (record { status = Read; rows = m; told = nothingTold })
   whole-read e m v q f = let w = was-read h q in settled-rows _ t u v e m (w .new) (is-reading ∙ w .is) (w .count) (w .filled) f
 
-  pub whole-short : (x : Shortage) (v : List ℕ) (a : Answer) → r ≡ out.Short x → Settled (refusedBy NotEnoughData) u v a → Settled (resultOf (reading types s set root (capacity t))) t v a
-  unfolding resultOf numberOf rowsOf codeOf
+  pub whole-short : (x : Shortage) (v : List ℕ) (a : Answer) → r ≡ out.Short x → Settled (shortBy (x .told)) u v a → Settled (resultOf (reading types s set root (capacity t))) t v a
   whole-short x v a q d =
       let w = was-short h q in
-      settled-same (ap resultOf (is-reading ∙ w .is)) (settled-long NotEnoughData t u (w .filled .long) d)
+      settled-same (ap resultOf (is-reading ∙ w .is) ∙ short-as x) (settled-long (shortBy (x .told)) t u (w .filled .long) d)
 
   pub whole-refused : (k : Refusal) (n : Status) (v : List ℕ) (a : Answer) → r ≡ out.Refused k → codeOf n ≡ refusalNumber k → Settled (refusedBy n) u v a → Settled (resultOf (reading types s set root (capacity t))) t v a
   whole-refused k n v a q f d =
       let w = was-refused h q in
-      settled-same (ap resultOf (is-reading ∙ w .is) ∙ refused-as n k f) (settled-long n t u (w .filled .long) d)
+      settled-same (ap resultOf (is-reading ∙ w .is) ∙ refused-as n k f) (settled-long (refusedBy n) t u (w .filled .long) d)

@@ -1,14 +1,15 @@
--- What a call gives back: a number of document 01's table, and rows.
+-- What a call gives back: a number of document 01's table, rows, and what is told of a shortage.
 use Prim.Native.Nat.{ℕ, zero, suc, _+_, _-_, _*_, _%_, _^_}
 use mathlib.Core.Path.{_≡_}
 use mathlib.Core.List.{List, [], _++_}
 use lib.ListN.{length, replicate}
+use Rattle.wire.specs.declared.cursor.Told.{Told}
 use Rattle.wire.specs.declared.settings.Mode.{Mode}
 use Rattle.wire.specs.declared.settings.Mode.the-variants.{Crate, Standard}
 use Rattle.book.specs.Fault.{reasonNumber}
 use Rattle.table.specs.declared.rows.Row.{Row}
 use Rattle.table.specs.Rows.{width, words}
-use Rattle.table.specs.Outcome.{Outcome, numberOf, rowsOf}
+use Rattle.table.specs.Outcome.{Outcome, numberOf, nothingTold, toldOf, rowsOf}
 use Rattle.sinotayam.specs.declared.answer.Status.{Status}
 use Rattle.sinotayam.specs.declared.answer.Status.the-variants.{Read, NotEnoughData, InvalidData, InvalidType, NotPrepared, BadRoot, TooLong, Unsupported, TooDeep, NoRoom, NoDiscriminator, NotText, Unfit, BadBook}
 use Rattle.sinotayam.specs.declared.answer.Answer.{Answer}
@@ -35,28 +36,34 @@ unfoldable pub modeOf : ℕ → Mode
 modeOf zero = Crate
 modeOf (suc n) = Standard
 
--- what a call comes to: document 01's number, and the rows
+-- what a call comes to: document 01's number, the rows, and what is told of a shortage
 pub record Result : Type 0 where
   pub number : ℕ
   pub rows : List Row
+  pub told : Told
 
--- "Every refused reading returns 0 rows"
+-- "Every refused reading returns 0 rows"; order 6: "For answers other than 1 both numbers are 0"
 abbrev pub refusedBy : Status → Result
-refusedBy n = record { number = codeOf n; rows = [] }
+refusedBy n = record { number = codeOf n; rows = []; told = nothingTold }
 
--- a reading's own number and rows
+-- 1, and what is told of it
+abbrev pub shortBy : Told → Result
+shortBy told = record { number = codeOf NotEnoughData; rows = []; told = told }
+
+-- a reading's own number and rows; order 6: "through every caller up to the final answer"
 unfoldable pub resultOf : Outcome → Result
-resultOf o = record { number = numberOf o; rows = rowsOf o }
+resultOf o = record { number = numberOf o; rows = rowsOf o; told = toldOf o }
 
 -- these rows, and zeros after them to the table's end.
 -- "Every refused reading returns 0 rows and the whole table zero. A finished one leaves zero after its last row."
 abbrev pub tableOf : List ℕ → List Row → List ℕ
 tableOf lent rs = words rs ++ replicate (length lent - width * length rs) 0
 
--- the number, the count of rows, and every word of the lent table
+-- the number, the count of rows, what is told, and every word of the lent table
 pub record Settled (w : Result) (before after : List ℕ) (r : Answer) : Type 0 where
   pub number : codeOf (r .status) ≡ w .number
   pub count : r .rows ≡ length (w .rows)
+  pub told : r .told ≡ w .told
   pub table : after ≡ tableOf before (w .rows)
 
 -- the number and the count in one word: rows * 256 + number. The count has 56 bits there; more rows would be 2 ^ 61 bytes of table
@@ -67,3 +74,8 @@ packed number rows = rows % 2 ^ 56 * 256 + number
 pub record Returned (w : Result) (before after : List ℕ) (r : ℕ) : Type 0 where
   pub word : r ≡ packed (w .number) (length (w .rows))
   pub table : after ≡ tableOf before (w .rows)
+
+-- and the two words that a C call is lent for what is told
+pub record Tells (w : Result) (first second : ℕ) : Type 0 where
+  pub position : first ≡ w .told .position
+  pub need : second ≡ w .told .need

@@ -1,9 +1,10 @@
 -- The entry points. "Order: 8, 9, 10, message under 4 bytes (1), unknown identifier (2), then the reading."
-use Prim.Native.Nat.{ℕ}
+use Prim.Native.Nat.{ℕ, _-_}
 use mathlib.Core.Bool.{Bool, true, false}
 use mathlib.Core.List.{List}
 use lib.Dec.{leb, ltb}
 use lib.ListN.{length, getD, drop}
+use Rattle.wire.specs.declared.cursor.Told.{Told}
 use Rattle.wire.specs.declared.settings.Mode.{Mode}
 use Rattle.wire.specs.declared.settings.Representation.{Representation}
 use Rattle.wire.specs.declared.settings.Representation.the-variants.{Known, Unknown}
@@ -14,13 +15,22 @@ use Rattle.book.specs.declared.fault.Fault.the-variants.{Nothing, In}
 use Rattle.book.specs.Fault.{faultOf}
 use Rattle.reader.specs.Nested.{reading}
 use Rattle.sinotayam.specs.declared.answer.Status.{Status}
-use Rattle.sinotayam.specs.declared.answer.Status.the-variants.{NotEnoughData, InvalidData, BadBook, BadRoot, TooLong}
-use Rattle.sinotayam.specs.Answer.{Result, refusedBy, resultOf}
+use Rattle.sinotayam.specs.declared.answer.Status.the-variants.{InvalidData, BadBook, BadRoot, TooLong}
+use Rattle.sinotayam.specs.Answer.{Result, refusedBy, shortBy, resultOf}
 
 -- this number where the test passes, else what follows
 unfoldable pub refusedIf : Bool → Status → Result → Result
 refusedIf true n next = refusedBy n
 refusedIf false n next = next
+
+-- 1 with what is told where the test passes, else what follows
+unfoldable pub shortIf : Bool → Told → Result → Result
+shortIf true told next = shortBy told
+shortIf false told next = next
+
+-- order 6: "a message under 4 bytes tells position 0 and 4 minus its length"
+abbrev pub underFour : ℕ → Told
+underFour size = record { position = 0; need = 4 - size }
 
 -- "unknown identifier (2), then the reading" of the data
 unfoldable pub byIdentifier : List BookType → ℕ → List ℕ → ℕ → Representation → Result
@@ -33,7 +43,7 @@ unfoldable pub messageBy : List BookType → ℕ → List ℕ → Mode → ℕ �
 messageBy types root message mode room =
     refusedIf (leb (length types) root) BadRoot
     (refusedIf (ltb 65536 (length message)) TooLong
-    (refusedIf (ltb (length message) 4) NotEnoughData
+    (shortIf (ltb (length message) 4) (underFour (length message))
     (byIdentifier types root (drop 4 message) room (settingsOf mode (getD message 0 0) (getD message 1 0)))))
 
 -- data whose identifier is known: "(65,532 bytes after the four-byte header)"

@@ -4,3 +4,4 @@ pub mod Prepared
 pub mod Text
 pub mod Demand3
 pub mod Room
+pub mod Told

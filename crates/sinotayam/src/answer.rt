@@ -1,10 +1,11 @@
-// What a call gives back: a number of document 01's table, and how many rows stand in the lent table.
+// What a call gives back: a number of document 01's table, how many rows stand in the lent table, and what is told of a shortage.
 ghost use mathlib.Core.Path.{_≡_};
 ghost use Rattle.table.specs.Outcome.{refusalNumber};
-ghost use Rattle.sinotayam.specs.Answer.{codeOf, refusedBy, Settled};
+ghost use Rattle.sinotayam.specs.Answer.{codeOf, refusedBy, shortBy, Settled};
 use book::fault::Reason;
 use table::out::Refusal;
 use table::rows::clear_after;
+use wire::cursor::Told;
 
 // Document 01's "Numbers given back", without 4, which no call gives back, and with order 2's reasons for a book. A reading with an index of no types is NotPrepared.
 pub enum Status {
@@ -27,6 +28,8 @@ pub enum Status {
 pub struct Answer {
     pub status: Status,
     pub rows: usize,
+    // Where the read that ran short began, and the bytes that it still needed; both 0 unless the status is NotEnoughData.
+    pub told: Told,
 }
 
 impl Status {
@@ -71,5 +74,22 @@ pub fn refused(table: &mut [u64], status: Status) -> Answer
     ensures { λ r. ⌜ Settled (refusedBy status) (now (table .entry)) (now (table .exit)) r ⌝ }
 {
     clear_after(table, 0);
-    Answer { status, rows: 0 }
+    let told = Told {
+        position: 0,
+        need: 0,
+    };
+    Answer {
+        status,
+        rows: 0,
+        told,
+    }
+}
+
+// A read that ran short: refused, with what is told of it.
+pub fn short(table: &mut [u64], told: Told) -> Answer
+    ensures { λ r. ⌜ Settled (shortBy told) (now (table .entry)) (now (table .exit)) r ⌝ }
+{
+    let mut a = refused(table, Status::NotEnoughData);
+    a.told = told;
+    a
 }

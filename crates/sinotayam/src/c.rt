@@ -1,11 +1,12 @@
 // The calls for C and Rust: include/sinotayam.h declares them. A slice is a pointer and a length there. Nothing is required of any.
+// A reading call is lent two words, for what is told of a shortage.
 ghost use mathlib.Core.Path.{_≡_};
 ghost use mathlib.Core.Bool.{not};
 ghost use lib.Dec.{eqb};
 ghost use Rattle.book.specs.Fault.{faultWord, faultOf};
 ghost use Rattle.table.specs.Rows.{capacity};
 ghost use Rattle.fit.specs.Check.{checkOf};
-ghost use Rattle.sinotayam.specs.Answer.{codeOf, modeOf, packed, Returned};
+ghost use Rattle.sinotayam.specs.Answer.{codeOf, modeOf, packed, Returned, Tells};
 ghost use Rattle.sinotayam.specs.Entry.{readOf};
 ghost use Rattle.sinotayam.specs.Prepared.{prepareOf, preparedFrom, readPrepared};
 ghost use Rattle.sinotayam.specs.Text.{textNumber};
@@ -47,11 +48,16 @@ pub extern "C" fn sinotayam_read(
     message: &[u8],
     standard: u8,
     table: &mut [u64],
+    position: &mut u64,
+    need: &mut u64,
 ) -> u64
-    ensures { λ r. ⌜ Returned (readOf (now (book .entry)) root (now (message .entry)) (modeOf standard) (capacity (now (table .entry)))) (now (table .entry)) (now (table .exit)) r ⌝ }
+    ensures { λ r. ⌜ Returned (readOf (now (book .entry)) root (now (message .entry)) (modeOf standard) (capacity (now (table .entry)))) (now (table .entry)) (now (table .exit)) r × Tells (readOf (now (book .entry)) root (now (message .entry)) (modeOf standard) (capacity (now (table .entry)))) (now (position .exit)) (now (need .exit)) ⌝ }
 {
     let mode = mode_of(standard);
-    pack(read(book, root as usize, message, mode, table))
+    let a = read(book, root as usize, message, mode, table);
+    *position = a.told.position as u64;
+    *need = a.told.need as u64;
+    pack(a)
 }
 
 // What is wrong with a book: record * 256 + number, and 0 for a right one.
@@ -88,11 +94,16 @@ pub extern "C" fn sinotayam_read_prepared(
     message: &[u8],
     standard: u8,
     table: &mut [u64],
+    position: &mut u64,
+    need: &mut u64,
 ) -> u64
-    ensures { λ r. ⌜ Returned (readPrepared (now (book .entry)) (now (index .entry)) root (now (message .entry)) (modeOf standard) (capacity (now (table .entry)))) (now (table .entry)) (now (table .exit)) r ⌝ }
+    ensures { λ r. ⌜ Returned (readPrepared (now (book .entry)) (now (index .entry)) root (now (message .entry)) (modeOf standard) (capacity (now (table .entry)))) (now (table .entry)) (now (table .exit)) r × Tells (readPrepared (now (book .entry)) (now (index .entry)) root (now (message .entry)) (modeOf standard) (capacity (now (table .entry)))) (now (position .exit)) (now (need .exit)) ⌝ }
 {
     let mode = mode_of(standard);
-    pack(read_prepared(book, index, root as usize, message, mode, table))
+    let a = read_prepared(book, index, root as usize, message, mode, table);
+    *position = a.told.position as u64;
+    *need = a.told.need as u64;
+    pack(a)
 }
 
 #[no_mangle]

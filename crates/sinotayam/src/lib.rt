@@ -15,6 +15,7 @@ pub mod texts;
 use crate::answer::Answer;
 use crate::answer::Status;
 use crate::answer::refused;
+use crate::answer::short;
 use crate::prepared::WORDS;
 use crate::prepared::count;
 use crate::reading::HEADER;
@@ -24,6 +25,7 @@ use crate::reading::identified;
 use book::fault::Fault;
 use book::judge::judge_into;
 use book::types::type_count;
+use wire::cursor::Told;
 use wire::settings::Mode;
 
 // A message of one of the types at these places.
@@ -44,7 +46,11 @@ fn message_by(
         return refused(table, Status::TooLong);
     }
     if message.len() < HEADER {
-        return refused(table, Status::NotEnoughData);
+        let told = Told {
+            position: 0,
+            need: HEADER - message.len(),
+        };
+        return short(table, told);
     }
     let id = [message[0], message[1]];
     identified(book, places, root, id, &message[HEADER..], mode, table)

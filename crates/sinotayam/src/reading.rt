@@ -9,9 +9,11 @@ ghost use Rattle.sinotayam.specs.Entry.{byIdentifier, dataBy};
 use crate::answer::Answer;
 use crate::answer::Status;
 use crate::answer::refused;
+use crate::answer::short;
 use reader::top_level_type;
 use table::out::Out;
 use table::rows::clear_after;
+use wire::cursor::Told;
 use wire::settings::Mode;
 use wire::settings::Representation;
 use wire::settings::Settings;
@@ -40,9 +42,13 @@ fn data_as(
             Answer {
                 status: Status::Read,
                 rows,
+                told: Told {
+                    position: 0,
+                    need: 0,
+                },
             }
         }
-        Out::Short(_) => refused(table, Status::NotEnoughData),
+        Out::Short(x) => short(table, x.told),
         Out::Refused(k) => refused(table, Status::of_refusal(k)),
     }
 }

@@ -4,6 +4,7 @@ use mathlib.Core.Bool.{Bool, true, false}
 use mathlib.Core.List.{List, [], _∷_, _++_}
 use lib.ListN.{length}
 use Rattle.wire.specs.declared.cursor.Cursor.{Cursor}
+use Rattle.wire.specs.declared.cursor.Told.{Told}
 use Rattle.wire.specs.declared.cursor.Shortage.{Shortage}
 use Rattle.wire.specs.Place.{broughtBack}
 use Rattle.table.specs.declared.rows.Row.{Row}
@@ -31,6 +32,16 @@ numberOf (read c rs) = 0
 numberOf (short x) = 1
 numberOf (refused k) = refusalNumber k
 
+-- order 6: "For answers other than 1 both numbers are 0"
+abbrev pub nothingTold : Told
+nothingTold = record { position = 0; need = 0 }
+
+-- the position of the read that ran short, and the bytes that it still needed
+unfoldable pub toldOf : Outcome → Told
+toldOf (read c rs) = nothingTold
+toldOf (short x) = x .told
+toldOf (refused k) = nothingTold
+
 -- ---- how outcomes are put together
 
 -- 13, "NoRoom: the next row has no place"
@@ -51,7 +62,7 @@ andThen (short x) rest = short x
 andThen (refused k) rest = refused k
 
 -- the same, but where the flag says so a value with too few bytes ends the run as read: "A member whose reading fails keeps no row.", "Refusals keep the
--- position reached."
+-- position reached."; order 6: "A shortage hidden by a structure that ends early .. is not told."
 unfoldable pub orEndIf : Bool → Outcome → (Cursor → ℕ → Outcome) → Outcome
 orEndIf flag (read c rs) rest = prepend rs (rest c (length rs))
 orEndIf true (short x) rest = read (x .at) []
@@ -64,7 +75,7 @@ closed kind id type opening (read c rs) = read c (row kind id type (length rs) o
 closed kind id type opening (short x) = short x
 closed kind id type opening (refused k) = refused k
 
--- "position and origin always come back"
+-- "position and origin always come back"; what is told of a shortage stays
 unfoldable pub backTo : Cursor → Outcome → Outcome
 backTo c (read d rs) = read c rs
 backTo c (short x) = short (broughtBack x c)

@@ -5,7 +5,7 @@ use mathlib.Core.Bool.{Bool, true, not}
 use mathlib.Core.List.{List, [], _∷_}
 use Rattle.ground.specs.Choice.{every}
 use Rattle.wire.specs.Identifier.{settings}
-use Rattle.wire.specs.Place.{cursorAt, shortAt, alignmentOf, paddingOf, seekTo, alignTo, afterMove}
+use Rattle.wire.specs.Place.{cursorAt, shortage, alignmentOf, paddingOf, seekTo, alignTo, afterMove}
 use Rattle.wire.specs.Number.{numberAt, onBytes, numberHere, onAligned, readNumber, afterNumber}
 use Rattle.wire.specs.declared.settings.Mode.the-variants.{Crate}
 use Rattle.wire.specs.declared.settings.ByteOrder.the-variants.{BigEndian, LittleEndian}
@@ -57,16 +57,22 @@ abbrev string16 : List ℕ → Text
 string16 s = wstringType s (settings Crate LittleEndian Xcdr1) (cursorAt 0 0)
 
 -- document 01, 5: "STRING8 `00000000`: 1; with `41` added: empty, start 4."
-example5 : (string8 (0x00 ∷ 0x00 ∷ 0x00 ∷ 0x00 ∷ []) ≡ Short (shortAt (cursorAt 4 0)))
+example5 : (string8 (0x00 ∷ 0x00 ∷ 0x00 ∷ 0x00 ∷ []) ≡ Short (shortage (cursorAt 4 0) 4 1))
     × (string8 (0x00 ∷ 0x00 ∷ 0x00 ∷ 0x00 ∷ 0x41 ∷ []) ≡ Got 4 0 (cursorAt 5 0))
 unfolding stringType bytesHere afterNumber afterMove readNumber onAligned numberHere onBytes numberAt alignTo seekTo paddingOf alignmentOf restGood
 example5 = (refl, refl)
 
 -- ill-formed bytes are 2, and 1 where the closing byte is missing
 ill-formed : (string8 (0x02 ∷ 0x00 ∷ 0x00 ∷ 0x00 ∷ 0x80 ∷ 0x00 ∷ []) ≡ Bad)
-    × (string8 (0x02 ∷ 0x00 ∷ 0x00 ∷ 0x00 ∷ 0x80 ∷ []) ≡ Short (shortAt (cursorAt 5 0)))
+    × (string8 (0x02 ∷ 0x00 ∷ 0x00 ∷ 0x00 ∷ 0x80 ∷ []) ≡ Short (shortage (cursorAt 5 0) 5 1))
 unfolding stringType bytesHere afterNumber afterMove readNumber onAligned numberHere onBytes numberAt alignTo seekTo paddingOf alignmentOf table37 follow restGood
 ill-formed = (refl, refl)
+
+-- order 6: a STRING8's bytes are told as one block, and then its closing byte
+short-blocks : (string8 (0x04 ∷ 0x00 ∷ 0x00 ∷ 0x00 ∷ 0x41 ∷ []) ≡ Short (shortage (cursorAt 4 0) 4 2))
+    × (string8 (0x04 ∷ 0x00 ∷ 0x00 ∷ 0x00 ∷ 0x41 ∷ 0x42 ∷ 0x43 ∷ []) ≡ Short (shortage (cursorAt 7 0) 7 1))
+unfolding stringType bytesHere afterNumber afterMove readNumber onAligned numberHere onBytes numberAt alignTo seekTo paddingOf alignmentOf restGood
+short-blocks = (refl, refl)
 
 -- document 01, 12, its string after the two headers: "`0A000000 01000050 02000000 4100`: start 12, 1 byte."
 example12 : stringType (0x0A ∷ 0x00 ∷ 0x00 ∷ 0x00 ∷ 0x01 ∷ 0x00 ∷ 0x00 ∷ 0x50 ∷ 0x02 ∷ 0x00 ∷ 0x00 ∷ 0x00 ∷ 0x41 ∷ 0x00 ∷ []) (settings Crate LittleEndian Xcdr2) (cursorAt 8 0)
@@ -82,6 +88,6 @@ example6 = (refl, refl)
 -- a pair; a low surrogate alone is 2, and 1 where a unit after it is missing
 pairs : (wstringType (0x00 ∷ 0x00 ∷ 0x00 ∷ 0x04 ∷ 0xD8 ∷ 0x00 ∷ 0xDF ∷ 0x02 ∷ []) (settings Crate BigEndian Xcdr2) (cursorAt 0 0) ≡ Got 4 2 (cursorAt 8 0))
     × (string16 (0x02 ∷ 0x00 ∷ 0x00 ∷ 0x00 ∷ 0x02 ∷ 0xDF ∷ []) ≡ Bad)
-    × (string16 (0x04 ∷ 0x00 ∷ 0x00 ∷ 0x00 ∷ 0x02 ∷ 0xDF ∷ []) ≡ Short (shortAt (cursorAt 6 0)))
+    × (string16 (0x04 ∷ 0x00 ∷ 0x00 ∷ 0x00 ∷ 0x02 ∷ 0xDF ∷ []) ≡ Short (shortage (cursorAt 6 0) 6 2))
 unfolding wstringType wideHere afterNumber unitsHere onUnits unitThen readUnits readNumber onAligned numberHere onBytes numberAt alignTo seekTo paddingOf alignmentOf table16 follow restGood
 pairs = (refl, refl, refl)

@@ -1,14 +1,12 @@
 -- Laws of the DHEADER, and of contents with or without one. Assumes nothing.
 use Prim.Native.Nat.{ℕ, _+_, _-_, _<_, _≤_, _^_}
 use native.Mathlib.Omega.{arith}
-use mathlib.Core.Path.{_≡_, sym, ap, _∙_}
-use mathlib.Core.Bool.{Bool, true, false, not, _&&_}
+use mathlib.Core.Path.{_≡_, refl, sym, ap, _∙_}
+use mathlib.Core.Bool.{Bool, true, false, not}
 use mathlib.Core.List.{List}
 use lib.ListN.{length, take}
 use lib.Seq.{take-all}
-use lib.Dec.{ltb}
-use Rattle.ground.proofs.Tests.{and-both}
-use borrow.Author.Tests.{not-true, not-false}
+use borrow.Author.Tests.{not-true, not-false, lt-ltb, le-ltb}
 use Rattle.wire.specs.Place.{cursorAt, alignmentOf, paddingOf}
 use Rattle.wire.specs.Number.{numberAt, afterNumber}
 use Rattle.wire.specs.Code.Reads.{ReadIs}
@@ -41,14 +39,23 @@ module _ (set : Settings) where
   keeps-so v m = rw (v, m)
 
 -- an end that is past the data's, or not
-module _ (s : List ℕ) (set : Settings) (c : Cursor) (end : ℕ) (k : Bool) (keeps : k ≡ keepsEnds set) where
-  pub up-to-past : (k && ltb (length s) end) ≡ true → Past ≡ upTo s set c end
-  unfolding upTo
-  up-to-past h = rw (← keeps, sym (and-both k (ltb (length s) end)) ∙ h)
+module _ (s : List ℕ) (set : Settings) (c : Cursor) (end : ℕ) where
+  module _ (k : Bool) (keeps : k ≡ keepsEnds set) (h : length s < end) where
+    pub up-to-past : k ≡ true → Past ≡ upTo s set c end
+    unfolding upTo
+    up-to-past e = rw (sym keeps ∙ e, lt-ltb (length s) end h)
 
-  pub up-to-there : (k && ltb (length s) end) ≡ false → Between c end ≡ upTo s set c end
+    pub up-to-let : k ≡ false → Between c end ≡ upTo s set c end
+    unfolding upTo
+    up-to-let e = rw (sym keeps ∙ e)
+
+  pub up-to-there : end ≤ length s → Between c end ≡ upTo s set c end
   unfolding upTo
-  up-to-there h = rw (← keeps, sym (and-both k (ltb (length s) end)) ∙ h)
+  up-to-there h = go (keepsEnds set) refl
+    where
+      go : (k : Bool) → keepsEnds set ≡ k → Between c end ≡ upTo s set c end
+      go true e = rw (e, le-ltb (length s) end h)
+      go false e = rw e
 
 -- the data up to an end
 module _ (s : List ℕ) (set : Settings) (from n : ℕ) (k : Bool) (keeps : k ≡ keepsEnds set) where
@@ -96,9 +103,13 @@ module _ (s : List ℕ) (set : Settings) (f : Bool) (c : Cursor) where
   unfolding contentsAt
   contents-plain e = rw e
 
-  pub contents-first : f ≡ true → set .version ≡ Xcdr1 → Between c (length s) ≡ contentsAt s set f c
+  pub contents-first : set .version ≡ Xcdr1 → Between c (length s) ≡ contentsAt s set f c
   unfolding contentsAt delimitedBy
-  contents-first e v = rw (e, v)
+  contents-first v = go f refl
+    where
+      go : (x : Bool) → f ≡ x → Between c (length s) ≡ contentsAt s set f c
+      go true e = rw (e, v)
+      go false e = rw e
 
   pub contents-second : f ≡ true → set .version ≡ Xcdr2 → (r : Contents) → r ≡ dheaderAt s set c → r ≡ contentsAt s set f c
   unfolding contentsAt delimitedBy

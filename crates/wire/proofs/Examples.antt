@@ -1,10 +1,10 @@
 -- Document 01's bench examples that are numbers, computed. Assumes nothing.
-use Prim.Native.Nat.{ℕ, _*_, _^_}
+use Prim.Native.Nat.{ℕ, _-_, _*_, _^_}
 use mathlib.Core.Path.{_≡_, refl}
 use mathlib.Core.List.{List, [], _∷_}
 use Rattle.wire.specs.declared.settings.Mode.the-variants.{Crate}
 use Rattle.wire.specs.Identifier.{settings, orderOf, settingsOf}
-use Rattle.wire.specs.Place.{cursorAt, shortAt, alignmentOf, paddingOf, seekTo, alignTo}
+use Rattle.wire.specs.Place.{cursorAt, shortage, alignmentOf, paddingOf, seekTo, alignTo}
 use Rattle.wire.specs.Number.{numberAt, onBytes, numberHere, onAligned, readNumber, halvesOf, readFloat128, booleanIn, onByte, readBoolean}
 use Rattle.wire.specs.Signed.{extended}
 use Rattle.wire.specs.declared.settings.Settings.{Settings}
@@ -51,8 +51,8 @@ one-word : extended 4 4294967294 ≡ 18446744073709551614
 unfolding extended
 one-word = refl
 
--- example 2: three bytes are short, and the alignment's position is kept
-two : readsNumber (0xFE ∷ 0xFF ∷ 0xFF ∷ []) le1 start 4 ≡ number.Short (shortAt start)
+-- example 2: three bytes are short, and the alignment's position is kept; order 6: read from 0 on, one byte more was needed
+two : readsNumber (0xFE ∷ 0xFF ∷ 0xFF ∷ []) le1 start 4 ≡ number.Short (shortage start 0 1)
 unfolding readsNumber
 two = refl
 
@@ -69,14 +69,19 @@ seven-two : readsNumber twelve le2 (cursorAt 1 0) 8 ≡ number.Got 1 (cursorAt 1
 unfolding readsNumber
 seven-two = refl
 
-seven-one : readsNumber twelve le1 (cursorAt 1 0) 8 ≡ number.Short (shortAt (cursorAt 8 0))
+seven-one : readsNumber twelve le1 (cursorAt 1 0) 8 ≡ number.Short (shortage (cursorAt 8 0) 8 4)
 unfolding readsNumber
 seven-one = refl
 
--- "A position may pass the end; then even a skip of 0 is 1."
-past : seekTo twelve (cursorAt 13 0) 0 ≡ place.Short (shortAt (cursorAt 13 0))
+-- order 6: "any skip counts as a read from where it starts", an alignment too: of the three bytes to 4 there are two
+skipped : readsNumber (7 ∷ 0 ∷ 0 ∷ []) le2 (cursorAt 1 0) 4 ≡ number.Short (shortage (cursorAt 1 0) 1 1)
+unfolding readsNumber
+skipped = refl
+
+-- "A position may pass the end; then even a skip of 0 is 1.", and needs the bytes up to there; a need that no word holds is the most that one holds
+past : (seekTo twelve (cursorAt 13 0) 0 ≡ place.Short (shortage (cursorAt 13 0) 13 1)) × (seekTo [] (cursorAt 1 0) (2 ^ 64 - 1) ≡ place.Short (shortage (cursorAt 1 0) 1 (2 ^ 64 - 1)))
 unfolding seekTo
-past = refl
+past = (refl, refl)
 
 -- FLOAT128: a is the low half of the number in both byte orders
 abbrev sixteen : List ℕ

@@ -8,7 +8,7 @@ use native.Mathlib.Nat.{add-zero, mod-lt, mod-self, zero-mod, mod-eq-of-lt, add-
 use lib.ListN.{length}
 use lib.Dec.{leb, lit<}
 use borrow.Author.Tests.{le-leb, lt-leb, leb-true, leb-false}
-use Rattle.wire.specs.Place.{cursorAt, moved, shortAt, alignmentOf, gapOf, paddingOf, seekTo, alignTo, afterMove}
+use Rattle.wire.specs.Place.{cursorAt, moved, shortage, needAt, shortAt, alignmentOf, gapOf, paddingOf, seekTo, alignTo, afterMove}
 use Rattle.wire.specs.declared.settings.Version.{Version}
 use Rattle.wire.specs.declared.settings.Version.the-variants.{Xcdr1, Xcdr2}
 use Rattle.wire.specs.declared.cursor.Cursor.{Cursor}
@@ -108,9 +108,13 @@ module _ (s : List ℕ) (c : Cursor) (n : ℕ) where
   unfolding seekTo
   seek-at h = rw (le-leb _ _ h)
 
-  pub seek-short : length s < c .pos + n → Short (shortAt c) ≡ seekTo s c n
+  pub seek-short : length s < c .pos + n → Short (shortAt s c n) ≡ seekTo s c n
   unfolding seekTo
   seek-short h = rw (lt-leb _ _ h)
+
+  -- .. with the need as it was worked out
+  pub seek-lacks : (k : ℕ) → length s < c .pos + n → k ≡ needAt s (c .pos) n → Short (shortage c (c .pos) k) ≡ seekTo s c n
+  seek-lacks k h e = rw e (seek-short h)
 
 -- two constructors are never equal
 apart : (x : Shortage) (d : Cursor) → Short x ≡ At d → ⊥
@@ -122,7 +126,7 @@ seek-inv s c n d e = go (leb (c .pos + n) (length s)) refl
   where
     go : (t : Bool) → leb (c .pos + n) (length s) ≡ t → (c .pos + n ≤ length s) × (moved c n ≡ d)
     go true h = (leb-true _ _ h, (let f : At (moved c n) ≡ At d = seek-at s c n (leb-true _ _ h) ∙ e in cc))
-    go false h = absurd (apart (shortAt c) d (seek-short s c n (leb-false _ _ h) ∙ e))
+    go false h = absurd (apart (shortAt s c n) d (seek-short s c n (leb-false _ _ h) ∙ e))
 
 -- a finished alignment moves on, not past the end, and keeps the origin
 pub align-inv : (s : List ℕ) (v : Version) (c : Cursor) (size : ℕ) (d : Cursor) → alignTo s v c size ≡ At d → (c .pos ≤ d .pos) × (d .pos ≤ length s) × (d .origin ≡ c .origin)

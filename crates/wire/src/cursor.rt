@@ -1,9 +1,9 @@
 // Where a reading stands in the data, and how it moves. Nothing is required of a position, an origin or a length: each test stands
 // before the sum that it allows, so nothing wraps, past the end too.
 ghost use mathlib.Core.Path.{_≡_};
-ghost use Prim.Native.Nat.{_+_, _<_, _≤_};
+ghost use Prim.Native.Nat.{_+_, _-_, _<_, _≤_};
 ghost use lib.ListN.{length};
-ghost use Rattle.wire.specs.Place.{cursorAt, broughtBack, alignmentOf, gapOf, paddingOf, seekTo, alignTo};
+ghost use Rattle.wire.specs.Place.{cursorAt, broughtBack, inAWord, alignmentOf, gapOf, paddingOf, seekTo, alignTo};
 use crate::settings::Version;
 
 pub struct Cursor {
@@ -11,13 +11,20 @@ pub struct Cursor {
     pub origin: usize,
 }
 
-// What a read that ran short tells. Whoever meets one passes it on whole.
+// What is told of a read that ran short: where it began, and the bytes that it still needed.
+pub struct Told {
+    pub position: usize,
+    pub need: usize,
+}
+
+// A read that ran short: where the reading stands, and what is told. Whoever meets one passes it on whole.
 pub struct Shortage {
     pub at: Cursor,
+    pub told: Told,
 }
 
 impl Shortage {
-    // The same shortage, with the reading standing at `c` again.
+    // The same shortage, with the reading standing at `c` again. What is told stays.
     pub fn back_to(self, c: Cursor) -> Shortage
         ensures { λ r. ⌜ r ≡ broughtBack self c ⌝ }
     {
@@ -62,11 +69,13 @@ impl Cursor {
         let pos = self.pos;
         let origin = self.origin;
         let end = s.len();
-        if end < pos {
-            return Place::Short(Shortage { at: self });
-        }
-        if end - pos < n {
-            return Place::Short(Shortage { at: self });
+        let need = lack(pos, n, end);
+        if 0 < need {
+            let told = Told {
+                position: pos,
+                need,
+            };
+            return Place::Short(Shortage { at: self, told });
         }
         Place::At(Cursor::new(pos + n, origin))
     }
@@ -97,6 +106,25 @@ impl Cursor {
         let n = self.padding(alignment);
         self.seek(s, n)
     }
+}
+
+// The most that a word holds.
+const MOST: usize = 18446744073709551615;
+
+// The bytes of n from `pos` on that the data of so many lacks, or the most that a word holds: 0 where it has them all.
+fn lack(pos: usize, n: usize, end: usize) -> usize
+    ensures { λ r. ⌜ r ≡ inAWord (pos + n - end) ⌝ }
+{
+    if end < pos {
+        if MOST - (pos - end) < n {
+            return MOST;
+        }
+        return pos - end + n;
+    }
+    if end - pos < n {
+        return n - (end - pos);
+    }
+    0
 }
 
 fn alignment_of(version: Version, size: usize) -> usize

@@ -22,8 +22,10 @@ pub enum Contents {
 fn up_to(s: &[u8], set: Settings, from: Cursor, end: usize) -> Contents
     ensures { λ r. ⌜ r ≡ upTo (now (s .entry)) set from end ⌝ }
 {
-    if set.keeps_ends() & (s.len() < end) {
-        return Contents::Past;
+    if s.len() < end {
+        if set.keeps_ends() {
+            return Contents::Past;
+        }
     }
     Contents::Between(from, end)
 }
@@ -53,11 +55,13 @@ pub fn contents_at(s: &[u8], set: Settings, delimited: bool, at: Cursor) -> Cont
     ensures { λ r. ⌜ r ≡ contentsAt (now (s .entry)) set delimited at ⌝ }
 {
     let version = set.version;
-    if delimited {
-        return match version {
-            Version::Xcdr1 => Contents::Between(at, s.len()),
-            Version::Xcdr2 => dheader(s, set, at),
-        };
+    match version {
+        Version::Xcdr1 => {}
+        Version::Xcdr2 => {
+            if delimited {
+                return dheader(s, set, at);
+            }
+        }
     }
     Contents::Between(at, s.len())
 }

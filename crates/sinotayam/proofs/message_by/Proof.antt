@@ -21,8 +21,11 @@ same-length-2 c = search needs
 returns-2 : tie.Need-returns-2
 returns-2 c = search (needs, message-root, message-long, message-under, message-rest)
 
-refused-requires-3 : tie.Need-refused-requires-3
-refused-requires-3 c κs = search needs
+sub-t18 : tie.Need-sub-t18
+sub-t18 c = search needs
+
+short-requires : tie.Need-short-requires
+short-requires c κs = search needs
 
 same-length-3 : tie.Need-same-length-3
 same-length-3 c = search needs
@@ -30,11 +33,11 @@ same-length-3 c = search needs
 returns-3 : tie.Need-returns-3
 returns-3 c = search (needs, message-root, message-long, message-under, message-rest)
 
-shared-slice-read-t20 : tie.Need-shared-slice-read-t20
-shared-slice-read-t20 c = search needs
-
 shared-slice-read-t22 : tie.Need-shared-slice-read-t22
 shared-slice-read-t22 c = search needs
+
+shared-slice-read-t24 : tie.Need-shared-slice-read-t24
+shared-slice-read-t24 c = search needs
 
 sub-identified : tie.Need-sub-identified
 sub-identified c = search needs
@@ -64,11 +67,12 @@ message-by-spec =
     refused-requires-2
     same-length-2
     returns-2
-    refused-requires-3
+    sub-t18
+    short-requires
     same-length-3
     returns-3
-    shared-slice-read-t20
     shared-slice-read-t22
+    shared-slice-read-t24
     sub-identified
     part-identified-start
     part-identified-end

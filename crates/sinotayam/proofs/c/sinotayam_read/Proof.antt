@@ -1,4 +1,4 @@
-use Rattle.sinotayam.proofs.Packing.{returned-read}
+use Rattle.sinotayam.proofs.Packing.{returned-read, tells-read}
 use borrow.Author.Needs.{needs}
 use Rattle.sinotayam.proofs.c.sinotayam_read.Statement.{statement}
 use Rattle.sinotayam.proofs.c.sinotayam_read.Tie as tie
@@ -16,7 +16,7 @@ same-length : tie.Need-same-length
 same-length c = search needs
 
 returns : tie.Need-returns
-returns c = search (needs, returned-read)
+returns c = (search (needs, returned-read), search (needs, tells-read))
 
 pub sinotayam-read-spec : {M : Type 1} → statement M
 sinotayam-read-spec =

@@ -1,4 +1,4 @@
-use Rattle.sinotayam.proofs.Packing.{returned-prepared}
+use Rattle.sinotayam.proofs.Packing.{returned-prepared, tells-prepared}
 use borrow.Author.Needs.{needs}
 use Rattle.sinotayam.proofs.c.sinotayam_read_prepared.Statement.{statement}
 use Rattle.sinotayam.proofs.c.sinotayam_read_prepared.Tie as tie
@@ -16,7 +16,7 @@ same-length : tie.Need-same-length
 same-length c = search needs
 
 returns : tie.Need-returns
-returns c = search (needs, returned-prepared)
+returns c = (search (needs, returned-prepared), search (needs, tells-prepared))
 
 pub sinotayam-read-prepared-spec : {M : Type 1} → statement M
 sinotayam-read-prepared-spec =

@@ -12,11 +12,11 @@ enum-known-rows c = search needs
 clear-after-requires : tie.Need-clear-after-requires
 clear-after-requires c κs = search (needs, whole-fits)
 
-enum-told : tie.Need-enum-told
-enum-told c = search needs
+enum-known-x : tie.Need-enum-known-x
+enum-known-x c = search needs
 
-refused-requires : tie.Need-refused-requires
-refused-requires c κs = search needs
+short-requires : tie.Need-short-requires
+short-requires c κs = search needs
 
 enum-known-k : tie.Need-enum-known-k
 enum-known-k c = search needs
@@ -24,8 +24,8 @@ enum-known-k c = search needs
 of-refusal-requires : tie.Need-of-refusal-requires
 of-refusal-requires c κs = search needs
 
-refused-requires-2 : tie.Need-refused-requires-2
-refused-requires-2 c κs = search needs
+refused-requires : tie.Need-refused-requires
+refused-requires c κs = search needs
 
 same-length : tie.Need-same-length
 same-length c = search needs
@@ -52,11 +52,11 @@ data-as-spec =
     top-level-type-requires
     enum-known-rows
     clear-after-requires
-    enum-told
-    refused-requires
+    enum-known-x
+    short-requires
     enum-known-k
     of-refusal-requires
-    refused-requires-2
+    refused-requires
     same-length
     returns
     same-length-2
