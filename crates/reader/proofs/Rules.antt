@@ -2,7 +2,7 @@
 use Rattle.table.proofs.Filling.{full-fits}
 use Rattle.values.proofs.Scalars.{row-next}
 use Rattle.reader.proofs.RunSteps.{run-start, run-end}
-use Rattle.reader.proofs.ValueSteps.{elements-unsupported, elements-full, elements-opened, elements-primitives, elements-others, value-none, value-unsupported, value-nested, value-list, value-scalar, list-short, list-past, list-uncounted, list-there, list-rest}
+use Rattle.reader.proofs.ValueSteps.{elements-unsupported, elements-full, elements-opened, elements-plain, value-none, value-unsupported, value-nested, value-list, value-scalar, list-short, list-past, list-uncounted, list-there, list-rest}
 use Rattle.reader.proofs.MemberSteps.{found-length, found-value, found-opens, mmember-short, mmember-absent, mmember-read, mmember-fell, mmember-refused, optional-looked, optional-short, optional-bad, optional-absent, optional-present, fmember-optional, fmember-opens, fmember-value}
 use Rattle.reader.proofs.PlainSteps.{plain-quick, plain-left}
 use Rattle.reader.proofs.StructureSteps.{fmembers-start, fmembers-end}
@@ -40,4 +40,4 @@ pub ruleset value-laws = (value-none, value-unsupported, value-nested, value-lis
 
 pub ruleset listed-laws = (list-short, list-past, list-uncounted, list-there, list-rest)
 
-pub ruleset elements-laws = (elements-unsupported, elements-full, elements-opened, elements-primitives, elements-others, full-fits, row-next)
+pub ruleset elements-laws = (elements-unsupported, elements-full, elements-opened, elements-plain, full-fits, row-next)

@@ -7,7 +7,7 @@ use native.Mathlib.Nat.{add-zero}
 use native.Mathlib.Omega.{arith}
 use lib.Dec.{T, eqb, leb, leb→le}
 use borrow.Author.Tests.{ne-eqb}
-use Rattle.ground.proofs.Tests.{both-left, both-right, and-both}
+use Rattle.ground.proofs.Tests.{apart, both-left, both-right, and-both}
 use Rattle.ground.proofs.Between.{passes, between}
 use Rattle.ground.specs.Choice.{pick, both, among}
 use Rattle.wire.specs.declared.cursor.Cursor.{Cursor}
@@ -36,10 +36,12 @@ use Rattle.book.specs.Types.{BookType, typeNo}
 use Rattle.book.specs.Places.{typeAt, typesBy, PlaceOf}
 use Rattle.table.specs.declared.out.Refusal.the-variants.{InvalidData, Unsupported, NoRoom}
 use Rattle.values.specs.Scalar.{scalarOf}
-use Rattle.values.specs.List.{primitivesOf, bitmasksOrTextsOf}
+use Rattle.values.specs.Code.Lists.{plainOf}
+use Rattle.values.proofs.Lists.{plain-by-kind}
 use Rattle.values.specs.Count.{countAt}
 use Rattle.reader.specs.Code.Run.{runOf}
 use Rattle.reader.proofs.RunSteps.{run-single, run-list}
+use Rattle.reader.proofs.Asked.{read-other}
 use Rattle.reader.specs.Value.{Nest, isSequence, primitiveElement, readAs, openedFrom, openedList, elementsOf, countedOf, hasDheader, listEndIf, listEnd, listValue, valueOf}
 use Rattle.reader.specs.Code.Ending.{endingAt}
 
@@ -56,6 +58,11 @@ opened-kind k e =
     falsity : (x : Bool) → T (not x) → x ≡ false
     falsity true h = absurd h
     falsity false h = refl
+
+-- a primitive is read as its own kind
+primitive-read : (t : BookType) → isPrimitive (t .kind) ≡ true → readAs t ≡ t .kind
+unfolding isPrimitive
+primitive-read t h = sym (read-other t (t .kind) refl (λ e. apart (rw e at h)))
 
 -- by a type's kind: the type with a number stands at a place of the book
 module _ (b index s : List ℕ) (set : Settings) (nest : Nest) (ty id : ℕ) (c : Cursor) (t : List ℕ) (n p k : ℕ) (at : PlaceOf b index ty p) (kind : k ≡ typeAt b p .kind) where
@@ -90,15 +97,12 @@ module _ (b index s : List ℕ) (set : Settings) (nest : Nest) (ty id : ℕ) (c 
           is-same (opened-list h ∙ some-room t n _ z i j ∙ ap (λ (m : ℕ). prepend (row 25 id k count (c .pos) ∷ []) (openedFrom (typesBy b index) s set nest ty count 0 c m)) (room-used t u n 1 (w .long))
           ∙ ap (prepend (row 25 id k count (c .pos) ∷ [])) (sym (run-list (typesBy b index) s set nest ty count 0 c (room u (n + 1))))) (is-after w d)
 
-      module _ (h : y ≡ false) (z : Bool) (i : z ≡ isPrimitive k) where
-        pub elements-primitives : z ≡ true → (u : List ℕ) (r : Out) → Done (primitivesOf s set k id count c (room t n)) n t u r → Done elements n t u r
-        unfolding elementsOf
-        elements-primitives j u r d = is-same (rw (kind-no, ← e, f, ← g, h, ← i, j)) d
-
-        pub elements-others : z ≡ false → (a : ℕ) → a ≡ readAs (typeAt b p) → (u : List ℕ) (r : Out) → Done (bitmasksOrTextsOf s set a id count c (room t n)) n t u r → Done elements n t u r
-        unfolding elementsOf
-        elements-others j a l u r d =
-            is-same (rw (tested unsupportedElement x false e f, tested opens y false g h, tested isPrimitive z false i j) (ap (λ (m : ℕ). bitmasksOrTextsOf s set m id count c (room t n)) (ap readAs (sym (at .is)) ∙ sym l))) d
+      -- what opens nothing: both sorts of lists, of which a primitive is read as its own kind
+      pub elements-plain : y ≡ false → (a : ℕ) → a ≡ readAs (typeAt b p) → (u : List ℕ) (r : Out) → Done (plainOf (eqb k 2 || eqb k 13) s set a id count c (room t n)) n t u r → Done elements n t u r
+      unfolding elementsOf
+      elements-plain h a l u r d =
+          let own : isPrimitive k ≡ true → a ≡ k = λ i. l ∙ primitive-read (typeAt b p) (rw kind at i) ∙ sym kind in
+          is-same (rw (tested unsupportedElement x false e f, tested opens y false g h, ap readAs (sym (at .is)) ∙ sym l, kind-no) (plain-by-kind s set k a id count c (room t n) (eqb k 2 || eqb k 13) own refl)) d
 
   -- a value
   abbrev valued : Outcome

@@ -13,8 +13,10 @@ use book::index::place;
 use book::types::bound;
 use book::types::element;
 use kinds::names::ARRAY;
+use kinds::names::BYTE;
 use kinds::names::NONE;
 use kinds::names::SEQUENCE;
+use kinds::names::UINT8;
 use kinds::stored_of;
 use table::out::Out;
 use table::out::Refusal;
@@ -22,8 +24,7 @@ use table::rows::Row;
 use table::rows::is_full;
 use table::rows::put_row;
 use values::count::count_at;
-use values::list::bitmasks_or_texts;
-use values::list::primitives;
+use values::list::plain;
 use values::scalar::scalar;
 use wire::cursor::Cursor;
 use wire::dheader::Contents;
@@ -135,8 +136,6 @@ pub fn elements(
         put_row(t, n, row);
         return as_nested(book, index, s, set, t, ty, 0, count, c, n + 1, depth);
     }
-    if kinds::is_primitive(kind) {
-        return primitives(s, set, t, kind, id, count, c, n);
-    }
-    bitmasks_or_texts(s, set, t, read_as(book, p), id, count, c, n)
+    let bytes = (kind == BYTE) | (kind == UINT8);
+    plain(s, set, t, read_as(book, p), bytes, id, count, c, n)
 }

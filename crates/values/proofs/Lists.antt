@@ -33,6 +33,7 @@ use Rattle.table.proofs.Outcomes.{is-short, is-refused, is-same, is-after, no-r
 use Rattle.values.specs.Scalar.{scalarOf}
 use Rattle.values.specs.List.{elementsFrom, listOf, onBlock, blockOf, primitivesOf, bitmasksOrTextsOf}
 use Rattle.values.specs.Code.Quick.{Quickly}
+use Rattle.values.specs.Code.Lists.{blockAt, plainOf}
 use Rattle.values.proofs.Quickly.{quick-done, quick-none, quick-next}
 
 module _ (s : List ℕ) (set : Settings) (kind count : ℕ) where
@@ -104,29 +105,24 @@ module _ (s : List ℕ) (set : Settings) (kind count : ℕ) where
         let w : Filled t u n (row 25 id (storedOf kind) count (c .pos) ∷ []) = rw q (filled-one t n (row 25 id (storedOf kind) count (c .pos)) (full-fits t n f is e)) in
         is-same (some-room t n _ f is e ∙ ap (λ (y : ℕ). prepend (row 25 id (storedOf kind) count (c .pos) ∷ []) (elementsFrom s set kind count 0 c y)) (room-used t u n 1 (w .long))) (is-after w h)
 
-  -- a block of bytes before it
-  module _ (id : ℕ) (c : Cursor) (t : List ℕ) (n : ℕ) (p : Place) (is : p ≡ seekTo s c count) where
-    pub block-short : (x : Shortage) → p ≡ place.Short x → Done (blockOf s set kind id count c (room t n)) n t t (Short x)
-    unfolding blockOf onBlock
-    block-short x e = is-short (rw (sym is ∙ e)) (filled-none t n)
+  -- a block of bytes before it, if one is asked for
+  module _ (bytes : Bool) (id : ℕ) (c : Cursor) (t : List ℕ) (n : ℕ) (p : Place) (is : p ≡ blockAt bytes s c count) where
+    pub plain-short : (x : Shortage) → p ≡ place.Short x → Done (plainOf bytes s set kind id count c (room t n)) n t t (Short x)
+    unfolding plainOf onBlock
+    plain-short x e = is-short (rw (sym is ∙ e)) (filled-none t n)
 
-    pub block-at : (d : Cursor) → p ≡ place.At d → (u : List ℕ) (r : Out) → Done (listOf s set kind id count c (room t n)) n t u r → Done (blockOf s set kind id count c (room t n)) n t u r
-    unfolding blockOf onBlock
-    block-at d e u r h = is-same (rw (sym is ∙ e)) h
+    pub plain-at : (d : Cursor) → p ≡ place.At d → (u : List ℕ) (r : Out) → Done (listOf s set kind id count c (room t n)) n t u r → Done (plainOf bytes s set kind id count c (room t n)) n t u r
+    unfolding plainOf onBlock
+    plain-at d e u r h = is-same (rw (sym is ∙ e)) h
 
--- a list of primitives: BYTE and UINT8 by their block, any other by its elements alone; and a list of bitmasks or texts
-module _ (s : List ℕ) (set : Settings) (kind id count : ℕ) (c : Cursor) (room : ℕ) where
-  pub primitives-block : among (2 ∷ 13 ∷ []) kind ≡ true → primitivesOf s set kind id count c room ≡ blockOf s set kind id count c room
-  unfolding primitivesOf
-  primitives-block e = rw e
+module _ (bytes : Bool) (s : List ℕ) (c : Cursor) (count : ℕ) (r : Place) where
+  pub block-asked : bytes ≡ true → r ≡ seekTo s c count → r ≡ blockAt bytes s c count
+  unfolding blockAt
+  block-asked e h = rw e h
 
-  pub primitives-list : among (2 ∷ 13 ∷ []) kind ≡ false → primitivesOf s set kind id count c room ≡ listOf s set kind id count c room
-  unfolding primitivesOf
-  primitives-list e = rw e
-
-  pub others-list : bitmasksOrTextsOf s set kind id count c room ≡ listOf s set kind id count c room
-  unfolding bitmasksOrTextsOf
-  others-list = refl
+  pub block-unasked : bytes ≡ false → r ≡ place.At c → r ≡ blockAt bytes s c count
+  unfolding blockAt
+  block-unasked e h = rw e h
 
 -- bytes are primitives
 bytes-primitive : (kind : ℕ) → isPrimitive kind ≡ false → among (2 ∷ 13 ∷ []) kind ≡ false
@@ -136,27 +132,20 @@ bytes-primitive kind h =
     let no-13 : kind ≡ 13 → ⊥ = λ e. apart (sym h ∙ inside 1 15 kind (omega (arith, e)) (omega (arith, e))) in
     rw (ne-eqb kind 2 no-2, ne-eqb kind 13 no-13)
 
--- a list by its elements' kind, and by the kind that they are read as, which is a primitive's own: what the two definitions come to
-pub list-by-kind : (s : List ℕ) (set : Settings) (kind read-as id count : ℕ) (c : Cursor) (room : ℕ) → (isPrimitive kind ≡ true → read-as ≡ kind)
-    → pick (isPrimitive kind) (primitivesOf s set kind id count c room) (bitmasksOrTextsOf s set read-as id count c room) ≡ pick (among (2 ∷ 13 ∷ []) kind) (blockOf s set kind id count c room) (listOf s set read-as id count c room)
-unfolding primitivesOf bitmasksOrTextsOf
-list-by-kind s set kind read-as id count c room own = go (isPrimitive kind) refl
+-- both sorts of lists, by the elements' kind and by the kind that they are read as, which is a primitive's own
+pub plain-by-kind : (s : List ℕ) (set : Settings) (kind read-as id count : ℕ) (c : Cursor) (free : ℕ) (bytes : Bool) → (isPrimitive kind ≡ true → read-as ≡ kind) → bytes ≡ (eqb kind 2 || eqb kind 13)
+    → pick (isPrimitive kind) (primitivesOf s set kind id count c free) (bitmasksOrTextsOf s set read-as id count c free) ≡ plainOf bytes s set read-as id count c free
+unfolding primitivesOf bitmasksOrTextsOf blockOf plainOf blockAt onBlock
+plain-by-kind s set kind read-as id count c free bytes own e = go (isPrimitive kind) refl
   where
+    is : bytes ≡ among (2 ∷ 13 ∷ []) kind
+    is = e ∙ (simp or-false)
+
+    blocked : (k : ℕ) (b : Bool) → pick b (onBlock (seekTo s c count) (listOf s set k id count c free)) (listOf s set k id count c free) ≡ onBlock (blockAt b s c count) (listOf s set k id count c free)
+    blocked k true = refl
+    blocked k false = refl
+
     go : (p : Bool) → isPrimitive kind ≡ p
-        → pick p (primitivesOf s set kind id count c room) (bitmasksOrTextsOf s set read-as id count c room) ≡ pick (among (2 ∷ 13 ∷ []) kind) (blockOf s set kind id count c room) (listOf s set read-as id count c room)
-    go true e = rw (own e)
-    go false e = rw (bytes-primitive kind e)
-
--- the code's test
-module _ (s : List ℕ) (set : Settings) (kind id count : ℕ) (c : Cursor) (t : List ℕ) (n : ℕ) (u : List ℕ) (r : Out) where
-  bytes : (eqb kind 2 || eqb kind 13) ≡ among (2 ∷ 13 ∷ []) kind
-  bytes = simp or-false
-
-  pub primitives-bytes : (eqb kind 2 || eqb kind 13) ≡ true → Done (blockOf s set kind id count c (room t n)) n t u r → Done (primitivesOf s set kind id count c (room t n)) n t u r
-  primitives-bytes e h = is-same (primitives-block s set kind id count c (room t n) (sym bytes ∙ e)) h
-
-  pub primitives-other : (eqb kind 2 || eqb kind 13) ≡ false → Done (listOf s set kind id count c (room t n)) n t u r → Done (primitivesOf s set kind id count c (room t n)) n t u r
-  primitives-other e h = is-same (primitives-list s set kind id count c (room t n) (sym bytes ∙ e)) h
-
-  pub others : Done (listOf s set kind id count c (room t n)) n t u r → Done (bitmasksOrTextsOf s set kind id count c (room t n)) n t u r
-  others h = is-same (others-list s set kind id count c (room t n)) h
+        → pick p (primitivesOf s set kind id count c free) (bitmasksOrTextsOf s set read-as id count c free) ≡ plainOf bytes s set read-as id count c free
+    go true f = rw (own f, is) (blocked kind (among (2 ∷ 13 ∷ []) kind))
+    go false f = rw (is, bytes-primitive kind f) (blocked read-as false)

@@ -1,13 +1,14 @@
 // Lists of values that open nothing.
+ghost use mathlib.Core.Path.{_≡_};
 ghost use Rattle.table.specs.Rows.{room};
 ghost use Rattle.table.specs.Code.Outcome.{Done};
 ghost use Rattle.values.specs.Scalar.{scalarOf};
-ghost use Rattle.values.specs.List.{elementsFrom, listOf, blockOf, primitivesOf, bitmasksOrTextsOf};
+ghost use Rattle.values.specs.List.{elementsFrom, listOf};
+ghost use Rattle.values.specs.Code.Lists.{blockAt, plainOf};
 ghost use Rattle.values.specs.Code.Quick.{Quickly};
-use kinds::names::BYTE;
+use kinds::names::BOOLEAN;
 use kinds::names::SEQUENCE;
 use kinds::names::STRING8;
-use kinds::names::UINT8;
 use table::out::Out;
 use table::out::Refusal;
 use table::rows::Row;
@@ -17,25 +18,16 @@ use wire::cursor::Cursor;
 use wire::cursor::Place;
 use wire::settings::Settings;
 
-// The quick way for a list's texts, the most frequent of what is no number.
-fn text_element(
-    s: &[u8],
-    set: Settings,
-    t: &mut [u64],
-    kind: u8,
-    id: u64,
-    at: Cursor,
-    n: usize,
-) -> usize
+// The quick way for a list's texts and booleans, the most frequent of what is no number.
+fn element(s: &[u8], set: Settings, t: &mut [u64], kind: u8, id: u64, at: Cursor, n: usize) -> usize
     ensures { λ r. ⌜ Quickly (scalarOf (now (s .entry)) set kind id at (room (now (t .entry)) n)) 1 n (at .origin) (now (t .entry)) (now (t .exit)) r ⌝ }
 {
+    if is_full(t, n) {
+        return 0;
+    }
     match kind {
-        STRING8 => {
-            if is_full(t, n) {
-                return 0;
-            }
-            crate::quick::text_at(s, set, t, id, at, n)
-        }
+        STRING8 => crate::quick::text_at(s, set, t, id, at, n),
+        BOOLEAN => crate::quick::boolean_at(s, set, t, id, at, n),
         _ => 0,
     }
 }
@@ -48,7 +40,7 @@ fn each(s: &[u8], set: Settings, t: &mut [u64], kind: u8, count: u64, at: Cursor
     let mut c = at;
     let mut m = n;
     while i < count {
-        let past = text_element(s, set, t, kind, i, c, m);
+        let past = element(s, set, t, kind, i, c, m);
         if 0 < past {
             c = Cursor::new(past, c.origin);
             m += 1;
@@ -92,7 +84,7 @@ fn elements(
 }
 
 // The list's row, then its elements.
-pub fn list(
+fn list(
     s: &[u8],
     set: Settings,
     t: &mut [u64],
@@ -118,56 +110,33 @@ pub fn list(
     elements(s, set, t, kind, count, at, n + 1)
 }
 
-// A list of bytes: they are asked for in one block, before the row.
-pub fn block(
+// The bytes of a list of BYTE or UINT8 are asked for in one block, before its row.
+fn block(s: &[u8], bytes: bool, count: u64, at: Cursor) -> Place
+    ensures { λ r. ⌜ r ≡ blockAt «bytes» (now (s .entry)) at count ⌝ }
+{
+    if bytes {
+        return at.seek(s, count as usize);
+    }
+    Place::At(at)
+}
+
+// A list by the kind that its elements are read as; `bytes` says whether their own kind is BYTE or UINT8. A bitmask that is read as UINT8 is no byte: its list
+// asks for no block. There is one such function, and one place that calls it, so the compiler takes it in there.
+pub fn plain(
     s: &[u8],
     set: Settings,
     t: &mut [u64],
     kind: u8,
+    bytes: bool,
     id: u64,
     count: u64,
     at: Cursor,
     n: usize,
 ) -> Out
-    ensures { λ r. ⌜ Done (blockOf (now (s .entry)) set kind id count at (room (now (t .entry)) n)) n (now (t .entry)) (now (t .exit)) r ⌝ }
+    ensures { λ r. ⌜ Done (plainOf «bytes» (now (s .entry)) set kind id count at (room (now (t .entry)) n)) n (now (t .entry)) (now (t .exit)) r ⌝ }
 {
-    match at.seek(s, count as usize) {
+    match block(s, bytes, count, at) {
         Place::Short(x) => Out::Short(x),
         Place::At(_) => list(s, set, t, kind, id, count, at, n),
     }
-}
-
-// A list of primitives.
-pub fn primitives(
-    s: &[u8],
-    set: Settings,
-    t: &mut [u64],
-    kind: u8,
-    id: u64,
-    count: u64,
-    at: Cursor,
-    n: usize,
-) -> Out
-    ensures { λ r. ⌜ Done (primitivesOf (now (s .entry)) set kind id count at (room (now (t .entry)) n)) n (now (t .entry)) (now (t .exit)) r ⌝ }
-{
-    if (kind == BYTE) | (kind == UINT8) {
-        return block(s, set, t, kind, id, count, at, n);
-    }
-    list(s, set, t, kind, id, count, at, n)
-}
-
-// A list of bitmasks or of texts, by the kind that they are read as. A bitmask that is read as UINT8 is no byte: its list asks for no block.
-pub fn bitmasks_or_texts(
-    s: &[u8],
-    set: Settings,
-    t: &mut [u64],
-    kind: u8,
-    id: u64,
-    count: u64,
-    at: Cursor,
-    n: usize,
-) -> Out
-    ensures { λ r. ⌜ Done (bitmasksOrTextsOf (now (s .entry)) set kind id count at (room (now (t .entry)) n)) n (now (t .entry)) (now (t .exit)) r ⌝ }
-{
-    list(s, set, t, kind, id, count, at, n)
 }

@@ -81,7 +81,7 @@ fn number_at(
 }
 
 // A boolean, where it is 0 or 1.
-fn boolean_at(s: &[u8], set: Settings, t: &mut [u64], id: u64, at: Cursor, n: usize) -> usize
+pub fn boolean_at(s: &[u8], set: Settings, t: &mut [u64], id: u64, at: Cursor, n: usize) -> usize
     requires { ⌜ noRoom (now t) n ≡ false ⌝ }
     ensures { λ r. ⌜ Quickly (scalarOf (now (s .entry)) set 1 id at (room (now (t .entry)) n)) 1 n (at .origin) (now (t .entry)) (now (t .exit)) r ⌝ }
 {

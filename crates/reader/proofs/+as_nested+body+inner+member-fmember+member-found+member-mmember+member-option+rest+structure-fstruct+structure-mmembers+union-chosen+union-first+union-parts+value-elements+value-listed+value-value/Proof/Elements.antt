@@ -7,7 +7,6 @@ use Rattle.reader.proofs.+as_nested+body+inner+member-fmember+member-fo
 use Rattle.reader.proofs.+as_nested+body+inner+member-fmember+member-found+member-mmember+member-option+rest+structure-fstruct+structure-mmembers+union-chosen+union-first+union-parts+value-elements+value-listed+value-value.Proof.Base.{value·elements-at, as-nested-below}
 use Rattle.reader.proofs.as_nested.Reads as as-nested
 use Rattle.book.proofs.index.place.Reads as place-reads
-use Rattle.kinds.proofs.is_primitive.Reads as is-primitive-reads
 use Rattle.kinds.proofs.opens.Reads as opens-reads
 use Rattle.kinds.proofs.stored_of.Reads as stored-of-reads
 use Rattle.kinds.proofs.unsupported_element.Reads as unsupported-element-reads
@@ -15,12 +14,11 @@ use Rattle.reader.proofs.types.kind_at.Reads as kind-at-reads
 use Rattle.reader.proofs.types.read_as.Reads as read-as-reads
 use Rattle.table.proofs.rows.is_full.Reads as is-full-reads
 use Rattle.table.proofs.rows.put_row.Reads as put-row-reads
-use Rattle.values.proofs.list.bitmasks_or_texts.Reads as bitmasks-or-texts-reads
-use Rattle.values.proofs.list.primitives.Reads as primitives-reads
+use Rattle.values.proofs.list.plain.Reads as plain-reads
 use Rattle.reader.proofs.Rules.{elements-laws}
 
 abbrev E : ℕ → lts.Claims
-E t = (place-reads.Asked, place-reads.Learnt, kind-at-reads.Asked, kind-at-reads.Learnt, unsupported-element-reads.Asked, unsupported-element-reads.Learnt, opens-reads.Asked, opens-reads.Learnt, is-full-reads.Asked, is-full-reads.Learnt, stored-of-reads.Asked, stored-of-reads.Learnt, put-row-reads.Asked, put-row-reads.Learnt, as-nested-below t, as-nested.Post, is-primitive-reads.Asked, is-primitive-reads.Learnt, primitives-reads.Asked, primitives-reads.Learnt, read-as-reads.Asked, read-as-reads.Learnt, bitmasks-or-texts-reads.Asked, bitmasks-or-texts-reads.Learnt)
+E t = (place-reads.Asked, place-reads.Learnt, kind-at-reads.Asked, kind-at-reads.Learnt, unsupported-element-reads.Asked, unsupported-element-reads.Learnt, opens-reads.Asked, opens-reads.Learnt, is-full-reads.Asked, is-full-reads.Learnt, stored-of-reads.Asked, stored-of-reads.Learnt, put-row-reads.Asked, put-row-reads.Learnt, as-nested-below t, as-nested.Post, read-as-reads.Asked, read-as-reads.Learnt, plain-reads.Asked, plain-reads.Learnt)
 
 pub closed : (t : ℕ) {M : Type 1} → lts.Closed (E t) (value·elements-at t) value·elements.Post M
 closed t =
@@ -34,19 +32,15 @@ closed t =
     (λ c. search (needs, elements-laws))  -- same-length
     (λ c. search (needs, elements-laws))  -- returns-2
     (λ c κs. search (needs, elements-laws))  -- stored-of-requires
-    (λ c. search (needs, elements-laws))  -- cast-t23
+    (λ c. search (needs, elements-laws))  -- cast-t24
     (λ c κs. search (needs, elements-laws))  -- stored-of-requires-2
-    (λ c. search (needs, elements-laws))  -- cast-t25
+    (λ c. search (needs, elements-laws))  -- cast-t26
     (λ c κs. search (needs, elements-laws))  -- put-row-requires
     (λ c. row-next _ _ _ (c .before .before .before .before .before .before .before .before .is-full .ensures) (c .before .before .before .before .before .before .before .if3 .left) (c .before .before .before .before .before .before .before .before .before .before .before .before .before .before .before .before .before .before .before .before .good .1 .1 .1 .1 .0 .0))  -- add-as-nested
     (λ c κs. search (needs, elements-laws))  -- as-nested-requires
     (λ c. search (needs, elements-laws))  -- same-length-2
     (λ c. search (needs, elements-laws))  -- returns-3
-    (λ c κs. search (needs, elements-laws))  -- is-primitive-requires
-    (λ c κs. search (needs, elements-laws))  -- primitives-requires
+    (λ c κs. search (needs, elements-laws))  -- read-as-requires
+    (λ c κs. search (needs, elements-laws))  -- plain-requires
     (λ c. search (needs, elements-laws))  -- same-length-3
     (λ c. search (needs, elements-laws))  -- returns-4
-    (λ c κs. search (needs, elements-laws))  -- read-as-requires
-    (λ c κs. search (needs, elements-laws))  -- bitmasks-or-texts-requires
-    (λ c. search (needs, elements-laws))  -- same-length-4
-    (λ c. search (needs, elements-laws))  -- returns-5
