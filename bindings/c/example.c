@@ -151,8 +151,8 @@ int main(void)
         return refused("prepare", judged);
     }
 
-    /* once for each root that the app reads: 0 says that 3, 8, 9, 11 and 12 cannot come up in any message of it, and that no member is read
-       by another's header */
+    /* once for each root that the app reads: 0 says that 3, 9, 11, 12 and 17 to 23 cannot come up in any message of it, and that no member
+       is read by another's header */
     uint8_t fits = sinotayam_check(book, sizeof book, root, SINOTAYAM_ANY_ENCODING);
     if (fits != 0)
         return refused("check", fits);
