@@ -42,3 +42,11 @@ words_for() { # PROGRAM
     run=("$1")
     [ "$m" = x86_64 ] || run=("$tools/bin/qemu-x86_64" "$tools/lib/ld-linux-x86-64.so.2" --library-path "$tools/lib" "$1")
 }
+
+# How many crates of this repository a crate stands on.
+crates_below() { # NAME
+    awk -F'[: ]+' -v top="$1" '
+        !/^#/ && NF { for (i = 2; i <= NF; i++) below[$1, ++n[$1]] = $i; ours[$1] = 1 }
+        function mark(c, i) { for (i = 1; i <= n[c]; i++) if (ours[below[c, i]] && !seen[below[c, i]]++) mark(below[c, i]) }
+        END { mark(top); for (c in seen) k++; print k + 0 }' "$root/crates.txt"
+}

@@ -33,7 +33,7 @@ program() { # NAME --unproved, or NAME
         made=$root/target/bin/$1
         mark=$root/target/tools/$1
         if ! { [ -x "$made" ] && is_fresh "$mark"; }; then
-            echo "$me: proving the program '$1' and what it stands on, some ten minutes where nothing is proved yet ($me --unproved takes half a minute, and proves nothing)" >&2
+            echo "$me: proving the program '$1' and the $(crates_below "$1") crates that it stands on, each named when it is done; some ten minutes where nothing is proved yet ($me --unproved takes half a minute, and proves nothing)" >&2
             (cd "$root" && rt check "$1") >&2 || exit 1
             mkdir -p "${mark%/*}"
             : >"$mark"

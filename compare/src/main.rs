@@ -192,7 +192,7 @@ impl Run {
             self.window(cases, self.seed.wrapping_add(at));
             at += n;
         }
-        self.tally.print(&[self.mode]);
+        self.tally.print(&[self.mode], self.total);
         let which = if self.mode == Mode::Crate { "" } else { " (standard mode)" };
         println!("{} cases with seed {}: {} differences{which}", self.total, self.seed, self.differences);
         std::process::exit((self.differences > 0) as i32);

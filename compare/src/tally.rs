@@ -120,6 +120,9 @@ fn version(id: u8) -> &'static str {
     }
 }
 
+/// So many random cases reach every feature.
+const ENOUGH: u64 = 300_000;
+
 impl Tally {
     fn add(&mut self, mode: Mode, what: String) {
         *self.0.entry(named(mode, what)).or_default() += 1;
@@ -209,15 +212,19 @@ impl Tally {
         all.into_iter().map(|w| named(mode, w)).collect()
     }
 
-    /// All that was counted, and what the modes want and was not.
-    pub fn print(&self, modes: &[Mode]) {
+    /// All that was counted, and what the modes want and was not: by name where so many cases should have reached it.
+    pub fn print(&self, modes: &[Mode], cases: u64) {
         for (what, n) in &self.0 {
             println!("{n:>10}  {what}");
         }
-        for w in modes.iter().flat_map(|m| Self::wanted(*m)) {
-            if !self.0.contains_key(&w) {
-                println!("NOT REACHED  {w}");
-            }
+        let wanted: Vec<String> = modes.iter().flat_map(|m| Self::wanted(*m)).collect();
+        let missing: Vec<&String> = wanted.iter().filter(|w| !self.0.contains_key(*w)).collect();
+        if cases < ENOUGH && !missing.is_empty() {
+            println!("{} of {} features were not met in so few cases; from {ENOUGH} cases on each is met, or named", missing.len(), wanted.len());
+            return;
+        }
+        for w in missing {
+            println!("NOT REACHED  {w}");
         }
     }
 }
