@@ -113,6 +113,33 @@ def stack():
         print(f"  {s:<10}{all[most][s] - empty:>7.0f}  {most}")
 
 
+def family(message):
+    return "Tk" if message.startswith("Tk") else message[0]
+
+
+def summary(label, of):
+    worst = max(of, key=of.get)
+    over = sum(r > 1 for r in of.values())
+    return f"{label:<8}{len(of):>5}{sum(of.values()) / len(of):>8.2f}{of[worst]:>8.2f}{over:>8}  {worst}"
+
+
+def families():
+    """Of every message: the ratio's mean and worst by family, in instructions and in time."""
+    for unit, all in (("instructions", net(counts())), ("time", net(lines("time")))):
+        read = {m: s for m, s in all.items() if "refused" not in s}
+        for mode, some in (("the crate's mode", {m for m in read if not m.endswith(" S")}), ("the standard's mode", {m for m in read if m.endswith(" S")})):
+            for side in ("prepared", "whole"):
+                of = {m: read[m][side] / read[m]["crate"] for m in some}
+                print(f"\n{unit}, {side} call, {mode}: the ratio to the crate\n{'family':<8}{'lines':>5}{'mean':>8}{'worst':>8}{'over 1':>8}")
+                for f in sorted({family(m) for m in of}):
+                    print(summary(f, {m: r for m, r in of.items() if family(m) == f}))
+                print(summary("all", of))
+    print(f"\n{sum('refused' in s for s in all.values())} lines are refused in the crate's mode")
+
+
+if what == "real":
+    families()
+    sys.exit(0)
 if what in ("count", "all"):
     own, real = parts(net(counts()))
     table("instructions a message (the table lent has the rows needed; last column: prepared with a table of 2,048 rows)", own, "instructions")

@@ -3,6 +3,7 @@
 //   bench count CALLS    makes CALLS calls of each side, with `bench_mark` before each region, where callgrind ends a count
 //   bench time ROUNDS    native time: in each round every side has its turn
 //   bench stack          bytes of stack
+//   bench real-count CALLS, bench real-time ROUNDS    the same, of the messages of real.txt alone
 //   bench one CALLS MESSAGE SIDE    CALLS calls of one side, for a profiler
 // A line for each side: message, side, value.
 extern crate alloc;
@@ -22,6 +23,7 @@ mod deep;
 mod messages;
 mod oracle;
 mod port;
+mod real;
 mod trucks;
 mod write;
 #[allow(dead_code, unused)]
@@ -107,7 +109,7 @@ fn of_message(c: &'static Case, rows: usize) -> [Side; 3] {
 }
 
 fn sides() -> Vec<Side> {
-    let mut all = vec![Side { message: "-", name: "empty", call: Box::new(|| drop(black_box(0))) }];
+    let mut all = vec![empty()];
     for c in Vec::leak(messages::all()) {
         let rows = rows_of(c).unwrap_or_else(|number| panic!("{}: answer {number}", c.name));
         all.extend(of_message(c, rows));
@@ -115,13 +117,34 @@ fn sides() -> Vec<Side> {
             all.push(prepared(c, "prepared, 2048 rows", APP));
         }
     }
-    for c in Vec::leak(trucks::all()) {
+    written_by_others(&mut all, trucks::all());
+    all
+}
+
+/// Those that both sides read; the others are named, with their number.
+fn written_by_others(all: &mut Vec<Side>, cases: Vec<Case>) {
+    for c in Vec::leak(cases) {
         match rows_of(c) {
             Ok(rows) => all.extend(of_message(c, rows)),
             Err(number) => println!("{}\trefused\t{number}", c.name),
         }
     }
+}
+
+/// A message that the port refuses is not handed to the crate: of one whose type has changed it may reserve more memory than there is.
+fn real_sides() -> Vec<Side> {
+    let number = |c: &Case| port::read(&c.book, c.root, &c.message, c.standard, &mut vec![0; WIDTH * 20_000]) as u8;
+    let (read, refused): (Vec<Case>, Vec<Case>) = real::all().into_iter().partition(|c| number(c) == 0);
+    for c in &refused {
+        println!("{}\trefused\t{}", c.name, number(c));
+    }
+    let mut all = vec![empty()];
+    written_by_others(&mut all, read);
     all
+}
+
+fn empty() -> Side {
+    Side { message: "-", name: "empty", call: Box::new(|| drop(black_box(0))) }
 }
 
 fn count(sides: &mut [Side], calls: usize) {
@@ -185,6 +208,11 @@ fn stack(sides: &mut [Side]) {
 fn main() {
     let args: Vec<String> = std::env::args().collect();
     let number = || args[2].parse().expect("a number");
+    match args[1].as_str() {
+        "real-count" => return count(&mut real_sides(), number()),
+        "real-time" => return time(&mut real_sides(), number()),
+        _ => {}
+    }
     let mut sides = sides();
     match args[1].as_str() {
         "agree" => {}
