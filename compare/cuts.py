@@ -6,6 +6,10 @@ import sys
 
 MODES = ("crate", "standard")
 ROWS = 2048
+# The words of a row.
+ROW = 5
+# What port.c puts before the rows: the answer, the position and the need, its marks, the book's fault.
+REPLY = struct.Struct("<QQQBI")
 SHOWN = 5
 
 
@@ -13,7 +17,7 @@ def ask(port, folder, book, cases):
     """The answers to (root, mode, message), each as number, position, need."""
     batch = b"\x01" + struct.pack("<I", len(book)) + book
     for root, mode, message in cases:
-        batch += b"\x02" + struct.pack("<HBII", root, mode, ROWS * 4, len(message)) + message
+        batch += b"\x02" + struct.pack("<HBII", root, mode, ROWS * ROW, len(message)) + message
     path = folder + "/cuts.bin"
     with open(path, "wb") as f:
         f.write(batch)
@@ -21,8 +25,8 @@ def ask(port, folder, book, cases):
         said = subprocess.run(port, stdin=f, stdout=subprocess.PIPE, check=True).stdout
     at, all_ = 0, []
     for _ in cases:
-        word, position, need, marks = struct.unpack_from("<QQQB", said, at)
-        at += 25 + (word >> 8) * 32
+        word, position, need, marks, _ = REPLY.unpack_from(said, at)
+        at += REPLY.size + (word >> 8) * ROW * 8
         all_.append((word & 255, position, need, marks))
     assert at == len(said), "the port's program said more than it was asked"
     return all_
