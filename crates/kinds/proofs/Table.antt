@@ -109,3 +109,22 @@ element-some k = some (among (4 ∷ 7 ∷ 9 ∷ []) k) (among (5 ∷ 8 ∷ 10 �
     some true eight = lit< tt
     some false true = lit< tt
     some false false = lit< tt
+
+-- what the code looks up in an arm is of the kind that it is
+pub by-arm : (rule : ℕ → ℕ) (kind k : ℕ) → kind ≡ k → (y : ℕ) → y ≡ rule k → y ≡ rule kind
+by-arm rule kind k e y is = rw e is
+
+-- what no arm of these kinds takes
+abbrev pub Others : List ℕ → ℕ → Type 0
+Others [] k = Unit {0}
+Others (x ∷ xs) k = Others xs k × (k ≡ x → ⊥)
+
+others-none : (xs : List ℕ) (k : ℕ) → Others xs k → among xs k ≡ false
+others-none [] k o = refl
+others-none (x ∷ xs) k o = rw (ne-eqb k x (o .1), others-none xs k (o .0))
+
+-- a byte that no arm names has what NONE has
+pub unnamed : (rule : ℕ → ℕ) (none : ℕ) (xs : List ℕ) (k : ℕ) → k < 256 → Others xs k → T (passes (λ i. among xs i || eqb none (rule i)) 0 256) → none ≡ rule k
+unnamed rule none xs k h o p =
+    let t : T (among xs k || eqb none (rule k)) = between (λ i. among xs i || eqb none (rule i)) 256 0 p k zero-le h in
+    eqb→eq _ _ (rw (others-none xs k o) at t)

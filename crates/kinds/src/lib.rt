@@ -9,9 +9,11 @@ pub mod widths;
 
 use names::ALIAS;
 use names::ANNOTATION;
+use names::ARRAY;
 use names::BITMASK;
 use names::BITSET;
 use names::BOOLEAN;
+use names::BYTE;
 use names::CHAR8;
 use names::CHAR16;
 use names::ENUM;
@@ -130,12 +132,29 @@ const STORED: [u8; 28] = [
     MAP, // MAP
 ];
 
-// A code of 28 or more has what NONE has.
+// A code of 28 or more has what NONE has. An arm names its kind's entry, so that the compiler keeps the column beside the code: an index into the constant itself
+// would build it on the stack at each look-up, and wait for that. What no arm names is no number, as NONE is none.
 pub fn align_of(kind: u8) -> u8
     ensures { λ r. ⌜ r ≡ alignOf kind ⌝ }
 {
-    let k = kind as usize;
-    if k < ALIGN.len() { ALIGN[k] } else { ALIGN[0] }
+    match kind {
+        BOOLEAN => widths::BOOLEAN as u8,
+        BYTE => widths::BYTE as u8,
+        INT16 => widths::INT16 as u8,
+        INT32 => widths::INT32 as u8,
+        INT64 => widths::INT64 as u8,
+        UINT16 => widths::UINT16 as u8,
+        UINT32 => widths::UINT32 as u8,
+        UINT64 => widths::UINT64 as u8,
+        FLOAT32 => widths::FLOAT32 as u8,
+        FLOAT64 => widths::FLOAT64 as u8,
+        FLOAT128 => widths::FLOAT128 as u8,
+        INT8 => widths::INT8 as u8,
+        UINT8 => widths::UINT8 as u8,
+        CHAR8 => widths::CHAR8 as u8,
+        CHAR16 => widths::CHAR16 as u8,
+        _ => widths::NONE as u8,
+    }
 }
 
 pub fn element_of(kind: u8) -> u8
@@ -152,11 +171,35 @@ pub fn element_of(kind: u8) -> u8
 pub fn stored_of(kind: u8) -> u8
     ensures { λ r. ⌜ r ≡ storedOf kind ⌝ }
 {
-    let k = kind as usize;
-    if k < STORED.len() {
-        STORED[k]
-    } else {
-        STORED[0]
+    match kind {
+        BOOLEAN => stored::BOOLEAN as u8,
+        BYTE => stored::BYTE as u8,
+        INT16 => stored::INT16 as u8,
+        INT32 => stored::INT32 as u8,
+        INT64 => stored::INT64 as u8,
+        UINT16 => stored::UINT16 as u8,
+        UINT32 => stored::UINT32 as u8,
+        UINT64 => stored::UINT64 as u8,
+        FLOAT32 => stored::FLOAT32 as u8,
+        FLOAT64 => stored::FLOAT64 as u8,
+        FLOAT128 => stored::FLOAT128 as u8,
+        INT8 => stored::INT8 as u8,
+        UINT8 => stored::UINT8 as u8,
+        CHAR8 => stored::CHAR8 as u8,
+        CHAR16 => stored::CHAR16 as u8,
+        STRING8 => stored::STRING8 as u8,
+        STRING16 => stored::STRING16 as u8,
+        ALIAS => stored::ALIAS as u8,
+        BITMASK => stored::BITMASK as u8,
+        ANNOTATION => stored::ANNOTATION as u8,
+        ENUM => stored::ENUM as u8,
+        STRUCTURE => stored::STRUCTURE as u8,
+        UNION => stored::UNION as u8,
+        BITSET => stored::BITSET as u8,
+        SEQUENCE => stored::SEQUENCE as u8,
+        ARRAY => stored::ARRAY as u8,
+        MAP => stored::MAP as u8,
+        _ => stored::NONE as u8,
     }
 }
 
