@@ -103,7 +103,3 @@ module _ (v : Version) (m : Mode) (types : List BookType) (t : BookType) where
   pub length-own : v ≡ Xcdr2 → m ≡ Standard → false ≡ byLength v m types t
   unfolding byLength
   length-own e f = rw (e, f)
-
--- what the code looks up in an arm is of the kind that it is
-pub by-arm : (rule : ℕ → ℕ) (kind k : ℕ) → kind ≡ k → (y : ℕ) → y ≡ rule k → y ≡ rule kind
-by-arm rule kind k e y is = rw e is

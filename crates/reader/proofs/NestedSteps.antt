@@ -170,6 +170,10 @@ module _ (types : List BookType) (s : List ℕ) (set : Settings) (nest : Nest) (
   unfolding membersOf membersIf isStructure
   members-union e y f h = is-same (rw (ne-eqb (typeAt b at .kind) 22 (λ g. e (kind ∙ g)), ← f)) h
 
+-- the kind is the same when it is read again
+pub stored-again : (k j y : ℕ) {x : ℕ} → k ≡ x → j ≡ x → y ≡ storedOf j → y ≡ storedOf k
+stored-again k j y e f h = h ∙ ap storedOf (f ∙ sym e)
+
 -- a row's place is in the table after the rows beneath it too
 pub place-kept : (t u : List ℕ) (n : ℕ) (o : Outcome) (r : Out) (f : Bool) → f ≡ noRoom t n → f ≡ false → Done o (n + 1) t u r → width * n + width ≤ length u
 place-kept t u n o r f full fits h = omega (arith, full-fits t n f full fits, h .table .long)

@@ -1,8 +1,10 @@
 -- For each function of the cycle, the laws that its answers cite.
 use Rattle.table.proofs.Filling.{full-fits}
+use Rattle.values.proofs.Quickly.{quick-next}
 use Rattle.values.proofs.Scalars.{row-next}
 use Rattle.reader.proofs.RunSteps.{run-start, run-end}
-use Rattle.reader.proofs.ValueSteps.{elements-unsupported, elements-full, elements-opened, elements-plain, value-none, value-unsupported, value-nested, value-list, value-scalar, list-short, list-past, list-uncounted, list-there, list-rest}
+use Rattle.reader.proofs.ValueSteps.{elements-unsupported, elements-full, elements-opened, elements-plain, value-none, value-unsupported, value-nested, value-list, value-scalar, value-taken, value-left, list-short, list-past, list-uncounted, list-there, list-rest}
+use Rattle.reader.proofs.ListSteps.{list-taken, list-left}
 use Rattle.reader.proofs.MemberSteps.{found-length, found-value, found-opens, mmember-short, mmember-absent, mmember-read, mmember-fell, mmember-refused, optional-looked, optional-short, optional-bad, optional-absent, optional-present, fmember-optional, fmember-opens, fmember-value}
 use Rattle.reader.proofs.PlainSteps.{plain-quick, plain-left}
 use Rattle.reader.proofs.StructureSteps.{fmembers-start, fmembers-end}
@@ -28,7 +30,7 @@ pub ruleset chosen-laws = (fmember-optional, fmember-value, chosen-absent, chose
 
 pub ruleset fmember-laws = (plain-quick, plain-left)
 
-pub ruleset rest-laws = (fmember-optional, fmember-opens, fmember-value)
+pub ruleset rest-laws = (fmember-optional, fmember-opens, fmember-value, list-taken, list-left)
 
 pub ruleset option-laws = (optional-looked, optional-short, optional-bad, optional-absent, optional-present)
 
@@ -36,7 +38,7 @@ pub ruleset mmember-laws = (mmember-short, mmember-absent, mmember-read, mmember
 
 pub ruleset found-laws = (found-opens, found-length, found-value)
 
-pub ruleset value-laws = (value-none, value-unsupported, value-nested, value-list, value-scalar)
+pub ruleset value-laws = (value-none, value-unsupported, value-nested, value-list, value-taken, value-left, quick-next)
 
 pub ruleset listed-laws = (list-short, list-past, list-uncounted, list-there, list-rest)
 

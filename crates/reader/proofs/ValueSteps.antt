@@ -1,5 +1,5 @@
 -- Laws of a value and of lists of opened values: what each return and each turn shows. Assumes nothing.
-use Prim.Native.Nat.{ℕ, _+_, _-_, _≤_}
+use Prim.Native.Nat.{ℕ, _+_, _-_, _≤_, _<_}
 use mathlib.Core.Path.{_≡_, refl, sym, ap, _∙_}
 use mathlib.Core.Bool.{Bool, true, false, not, _||_, _&&_, or-false}
 use mathlib.Core.List.{List, [], _∷_, append-nil}
@@ -23,6 +23,7 @@ use Rattle.table.proofs.Filling.{filled-none, filled-kept, filled-one, full-fit
 use Rattle.table.proofs.Outcomes.{is-read, is-short, is-refused, is-same, is-after, WasRead, was-read, was-short, was-refused, then-read, then-short, then-refused, then-nil, no-room, some-room}
 use Rattle.wire.specs.declared.dheader.Contents.{Contents}
 use Rattle.wire.specs.declared.dheader.Contents.the-variants as contents
+use Rattle.wire.specs.Place.{cursorAt}
 use Rattle.wire.specs.Ends.{keepsEnds, cutAt}
 use Rattle.wire.specs.Dheader.{contentsAt}
 use Rattle.wire.specs.Number.{afterNumber}
@@ -37,6 +38,8 @@ use Rattle.book.specs.Places.{typeAt, typesBy, PlaceOf}
 use Rattle.table.specs.declared.out.Refusal.the-variants.{InvalidData, Unsupported, NoRoom}
 use Rattle.values.specs.Scalar.{scalarOf}
 use Rattle.values.specs.Code.Lists.{plainOf}
+use Rattle.values.specs.Code.Quick.{Quickly}
+use Rattle.values.proofs.Quickly.{quick-done, quick-none}
 use Rattle.values.proofs.Lists.{plain-by-kind}
 use Rattle.values.specs.Count.{countAt}
 use Rattle.reader.specs.Code.Run.{runOf}
@@ -60,7 +63,7 @@ opened-kind k e =
     falsity false h = refl
 
 -- a primitive is read as its own kind
-primitive-read : (t : BookType) → isPrimitive (t .kind) ≡ true → readAs t ≡ t .kind
+pub primitive-read : (t : BookType) → isPrimitive (t .kind) ≡ true → readAs t ≡ t .kind
 unfolding isPrimitive
 primitive-read t h = sym (read-other t (t .kind) refl (λ e. apart (rw e at h)))
 
@@ -144,6 +147,14 @@ module _ (b index s : List ℕ) (set : Settings) (nest : Nest) (ty id : ℕ) (c 
       unfolding valueOf
       value-scalar h i a j u r d =
           is-same (rw (here, tested unsupportedMember x false e f, tested opens y false g h, tested (among (25 ∷ 26 ∷ [])) _ false list-among i) (ap (λ (m : ℕ). scalarOf s set m id c (room t n)) (ap readAs (sym (at .is)) ∙ sym j))) d
+
+      -- .. where the quick way took it, or left it alone
+      module _ (h : y ≡ false) (i : (eqb k 25 || eqb k 26) ≡ false) (a : ℕ) (j : a ≡ readAs (typeAt b p)) (u : List ℕ) (r : ℕ) (q : Quickly (scalarOf s set a id c (room t n)) 1 n (c .origin) t u r) where
+        pub value-taken : 0 < r → (d : Cursor) → d ≡ cursorAt r (c .origin) → Done valued n t u (Read d (n + 1))
+        value-taken l d m = value-scalar h i a j u _ (rw m (quick-done 1 r l q))
+
+        pub value-left : r ≤ 0 → (v : List ℕ) (w : Out) → Done (scalarOf s set a id c (room u n)) n u v w → Done valued n t v w
+        value-left l v w d = value-scalar h i a j v w (rw (quick-none _ 1 n (c .origin) t u r l q) at d)
 
 -- what a DHEADER's end makes of a list
 ends-there : (end : ℕ) {o : Outcome} {n : ℕ} {t u : List ℕ} {r v : Out} → Done o n t u r → v ≡ endingAt end r → Done (andThen o (λ e used. pick (eqb (e .pos) end) (read e []) (refused InvalidData))) n t u v

@@ -29,6 +29,7 @@ use table::out::Refusal;
 use table::rows::Row;
 use table::rows::is_full;
 use table::rows::put_row;
+use table::rows::row_at;
 use values::scalar::enum_type;
 use wire::cursor::Cursor;
 use wire::dheader::Contents;
@@ -65,7 +66,8 @@ pub fn top_level_type(
 }
 
 // Opens so many structures, enums or unions of one type, one after the other: a member's alone, or a list's. Of each the kind, the depth
-// and the room are asked in this order, and its row is written last, when all rows beneath are counted.
+// and the room are asked in this order, and its row is written last, when all rows beneath are counted. For that the kind is read again: kept until then, it
+// costs more.
 pub fn as_nested(
     book: &[u8],
     index: &[u32],
@@ -115,7 +117,7 @@ pub fn as_nested(
                 let rows = k - m;
                 let beneath = rows - 1;
                 let row = Row {
-                    kind: types::row_kind(kind) as u64,
+                    kind: kinds::stored_of(types::kind_at(book, at)) as u64,
                     id: number,
                     a: ty as u64,
                     b: beneath as u64,
@@ -220,6 +222,11 @@ pub fn rest(
     let at = place(book, index, ty);
     if kinds::opens(types::kind_at(book, at)) {
         return as_nested(book, index, s, set, t, ty, i, 1, c, n, depth);
+    }
+    let past = plain::list(book, index, s, set, t, ty, i, c, n);
+    if 0 < past {
+        let rows = row_at(t, n).b as usize;
+        return Out::Read(Cursor::new(past, c.origin), n + 1 + rows);
     }
     value::value(book, index, s, set, t, ty, i, c, n, depth)
 }

@@ -10,7 +10,6 @@ ghost use Rattle.table.specs.Code.Outcome.{Done};
 ghost use mathlib.Core.List.{List};
 ghost use Prim.Native.Nat.{ℕ, _+_, _<_};
 ghost use lib.ListN.{length};
-ghost use Rattle.kinds.specs.Kinds.{storedOf};
 ghost use Rattle.lookup.specs.Code.Ahead.{TrueHint};
 use book::bytes::byte_there;
 use book::bytes::is_there;
@@ -21,10 +20,8 @@ use book::types::element;
 use book::types::extensibility;
 use book::types::is_bounded;
 use kinds::names::BITMASK;
-use kinds::names::ENUM;
 use kinds::names::SEQUENCE;
 use kinds::names::STRUCTURE;
-use kinds::names::UNION;
 use lookup::ahead::Hint;
 use lookup::ahead::sentinel_from;
 use table::out::Out;
@@ -118,18 +115,6 @@ pub fn by_length(book: &[u8], index: &[u32], set: Settings, at: usize) -> bool
             Mode::Crate => is_sequence(book, at) & primitive_element(book, index, at),
             Mode::Standard => false,
         },
-    }
-}
-
-// The kind of an opened value's row. In an arm the kind is known, so the compiler looks the entry up, and builds no table on the stack.
-pub fn row_kind(kind: u8) -> u8
-    ensures { λ r. ⌜ r ≡ storedOf kind ⌝ }
-{
-    match kind {
-        ENUM => kinds::stored_of(ENUM),
-        STRUCTURE => kinds::stored_of(STRUCTURE),
-        UNION => kinds::stored_of(UNION),
-        _ => kinds::stored_of(kind),
     }
 }
 

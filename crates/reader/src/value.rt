@@ -25,6 +25,7 @@ use table::rows::is_full;
 use table::rows::put_row;
 use values::count::count_at;
 use values::list::plain;
+use values::quick::any_at;
 use values::scalar::scalar;
 use wire::cursor::Cursor;
 use wire::dheader::Contents;
@@ -62,7 +63,12 @@ pub fn value(
     if (kind == SEQUENCE) | (kind == ARRAY) {
         return listed(book, index, s, set, t, p, id, c, n, depth);
     }
-    scalar(s, set, t, read_as(book, p), id, c, n)
+    let kind = read_as(book, p);
+    let past = any_at(s, set, t, kind, id, c, n);
+    if 0 < past {
+        return Out::Read(Cursor::new(past, c.origin), n + 1);
+    }
+    scalar(s, set, t, kind, id, c, n)
 }
 
 // Serialization rules 8 to 13: a sequence or an array, whose type is at `at`.

@@ -1,5 +1,5 @@
 -- Laws of lists of values that open nothing: the loop's start, turn and ends, and the list around it. Assumes nothing.
-use Prim.Native.Nat.{ℕ, suc, _+_, _-_, _^_, _≤_, _<_}
+use Prim.Native.Nat.{ℕ, zero, suc, _+_, _-_, _^_, _≤_, _<_}
 use mathlib.Core.Path.{_≡_, refl, sym, ap, _∙_}
 use mathlib.Core.Bool.{Bool, true, false, _||_, or-false}
 use mathlib.Core.List.{List, [], _∷_}
@@ -18,23 +18,25 @@ use Rattle.wire.specs.declared.cursor.Place.{Place}
 use Rattle.wire.specs.declared.cursor.Place.the-variants as place
 use Rattle.wire.specs.declared.settings.Settings.{Settings}
 use Rattle.wire.specs.Place.{cursorAt, seekTo}
+use Rattle.wire.proofs.Moves.{seek-at}
 use Rattle.kinds.specs.Kinds.{storedOf, isPrimitive}
 use Rattle.kinds.proofs.Table.{sequence-stored}
 use Rattle.table.specs.declared.out.Refusal.{Refusal}
 use Rattle.table.specs.declared.out.Refusal.the-variants.{NoRoom}
 use Rattle.table.specs.declared.out.Out.{Out}
 use Rattle.table.specs.declared.out.Out.the-variants.{Read, Short, Refused}
-use Rattle.table.specs.Rows.{row, room, noRoom}
+use Rattle.table.specs.declared.rows.Row.{Row}
+use Rattle.table.specs.Rows.{row, rowAt, room, noRoom}
 use Rattle.table.specs.Code.Rows.{putRow, Filled}
 use Rattle.table.specs.Outcome.{Outcome, read, prepend, andThen}
 use Rattle.table.specs.Code.Outcome.{Done}
-use Rattle.table.proofs.Filling.{filled-fits, filled-none, filled-one, full-fits, room-used}
-use Rattle.table.proofs.Outcomes.{is-short, is-refused, is-same, is-after, no-room, some-room, was-read, was-short, was-refused, then-read, then-short, then-refused, Sofar, sofar-start, sofar-more, sofar-read, sofar-short, sofar-refused}
+use Rattle.table.proofs.Filling.{filled-fits, filled-none, filled-one, filled-first, filled-row, full-fits, room-used}
+use Rattle.table.proofs.Outcomes.{is-read, is-short, is-refused, is-same, is-after, no-room, some-room, was-read, was-short, was-refused, then-read, then-short, then-refused, Sofar, sofar-start, sofar-more, sofar-read, sofar-short, sofar-refused}
 use Rattle.values.specs.Scalar.{scalarOf}
 use Rattle.values.specs.List.{elementsFrom, listOf, onBlock, blockOf, primitivesOf, bitmasksOrTextsOf}
 use Rattle.values.specs.Code.Quick.{Quickly}
 use Rattle.values.specs.Code.Lists.{blockAt, plainOf}
-use Rattle.values.proofs.Quickly.{quick-done, quick-none, quick-next}
+use Rattle.values.proofs.Quickly.{quick-is, quick-done, quick-none, quick-zero, quick-next}
 
 module _ (s : List ℕ) (set : Settings) (kind count : ℕ) where
   more : (i : ℕ) (c : Cursor) (k : ℕ) → i < count → elementsFrom s set kind (count - i) i c k ≡ andThen (scalarOf s set kind i c k) (λ d used. elementsFrom s set kind (count - (i + 1)) (i + 1) d (k - used))
@@ -149,3 +151,44 @@ plain-by-kind s set kind read-as id count c free bytes own e = go (isPrimitive k
         → pick p (primitivesOf s set kind id count c free) (bitmasksOrTextsOf s set read-as id count c free) ≡ plainOf bytes s set read-as id count c free
     go true f = rw (own f, is) (blocked kind (among (2 ∷ 13 ∷ []) kind))
     go false f = rw (is, bytes-primitive kind f) (blocked read-as false)
+
+-- an empty list is read where it stands
+pub quick-empty : (s : List ℕ) (set : Settings) (kind count : ℕ) → count ≡ 0 → (c : Cursor) (t : List ℕ) (n : ℕ) → Quickly (elementsFrom s set kind count 0 c (room t n)) count n (c .origin) t t (c .pos)
+unfolding Quickly elementsFrom
+quick-empty s set kind count e c t n = rw e (go (c .pos) refl)
+  where
+    go : (p : ℕ) → c .pos ≡ p → Quickly (read c []) 0 n (c .origin) t t p
+    go zero h = refl
+    go (suc p) h = is-read {rs = []} (ap (λ (x : ℕ). read (cursorAt x (c .origin)) []) h) refl (filled-none t n)
+
+-- a list that the quick way took: its row, once its elements have theirs
+module _ (s : List ℕ) (set : Settings) (kind count id : ℕ) (c : Cursor) (t u : List ℕ) (n r : ℕ) where
+  module _ (f : Bool) (is : f ≡ noRoom t n) (free : f ≡ false) (within : c .pos ≤ length s) (enough : count ≤ length s - c .pos) where
+    blocked : (bytes : Bool) (o : Outcome) → onBlock (blockAt bytes s c count) o ≡ o
+    unfolding onBlock blockAt
+    blocked true o = rw (← seek-at s c count (omega (arith, within, enough)))
+    blocked false o = refl
+
+    module _ (q : Quickly (elementsFrom s set kind count 0 c (room t (n + 1))) count (n + 1) (c .origin) t u r) where
+      pub quick-list : 0 < r → (k x : ℕ) → k ≡ storedOf 25 → x ≡ storedOf kind → (v : List ℕ) → v ≡ putRow u n (row k id x count (c .pos))
+          → (bytes : Bool) → Quickly (plainOf bytes s set kind id count c (room t n)) (1 + count) n (c .origin) t v r
+      unfolding plainOf listOf prepend
+      quick-list h k x list stored v p bytes =
+          let w = was-read (quick-done count r h q) refl in
+          let rs = row 25 id (storedOf kind) count (c .pos) in
+          let z : v ≡ putRow u n rs = rw (list ∙ sequence-stored, stored) at p in
+          let e : plainOf bytes s set kind id count c (room t n) ≡ read (cursorAt r (c .origin)) (rs ∷ w .new) =
+          blocked bytes _ ∙ some-room t n _ f is free ∙ ap (λ (y : ℕ). prepend (rs ∷ []) (elementsFrom s set kind count 0 c y)) (room-used t t n 1 refl) ∙ ap (prepend (rs ∷ [])) (w .is) in
+          quick-is (1 + count) r h (is-read e (omega (arith, w .count)) (rw z (filled-row rs (full-fits t n f is free) (w .filled))))
+
+      -- .. which tells how many they are
+      pub quick-counted : 0 < r → (k x : ℕ) (v : List ℕ) → v ≡ putRow u n (row k id x count (c .pos)) → rowAt v n .b ≡ count
+      quick-counted h k x v p =
+          let w = was-read (quick-done count r h q) refl in
+          rw p (ap (λ (y : Row). y .b) (filled-first (filled-row (row k id x count (c .pos)) (full-fits t n f is free) (w .filled))))
+
+  pub none-counted : r ≤ 0 → 0 < r → rowAt u n .b ≡ count
+  none-counted h k = absurd (omega arith)
+
+  pub quick-listless : r ≤ 0 → Quickly (elementsFrom s set kind count 0 c (room t (n + 1))) count (n + 1) (c .origin) t u r → (bytes : Bool) → Quickly (plainOf bytes s set kind id count c (room t n)) (1 + count) n (c .origin) t u r
+  quick-listless h q bytes = rw (quick-none _ count (n + 1) (c .origin) t u r h q) (quick-zero _ (1 + count) n (c .origin) t r h)

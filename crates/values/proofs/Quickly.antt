@@ -73,6 +73,12 @@ unfolding Quickly
 quick-zero o k n origin a zero h = refl
 quick-zero o k n origin a (suc r) h = absurd (omega arith)
 
+-- the table stays as long, so a row that had a place has it still
+pub place-still : (t u : List ℕ) (n : ℕ) (f : Bool) → f ≡ noRoom t n → f ≡ false → (o : Outcome) (k m origin r : ℕ) → Quickly o k m origin t u r → width * n + width ≤ length u
+unfolding Quickly
+place-still t u n f is free o k m origin zero q = rw q (full-fits t n f is free)
+place-still t u n f is free o k m origin (suc r) q = rw (q .table .long) (full-fits t n f is free)
+
 -- one row, at a place that is not the data's first
 quick-row : (o : Outcome) (t : List ℕ) (n origin p : ℕ) (r : Row) → o ≡ rowed (room t n) (cursorAt p origin) r → 0 < p → noRoom t n ≡ false → (u : List ℕ) → u ≡ putRow t n r → Quickly o 1 n origin t u p
 quick-row o t n origin p r e h free u put = quick-is 1 p h (is-same e (row-given t n (noRoom t n) refl (cursorAt p origin) r free u put))
@@ -92,6 +98,9 @@ read-begins q w = omega arith
 pub is-number : (kind : ℕ) → ((leb 2 kind && leb kind 14) && not (eqb kind 11)) ≡ isNumber kind
 unfolding isNumber
 is-number kind = and-both (leb 2 kind && leb kind 14) (not (eqb kind 11)) ∙ ap (λ (x : Bool). both x (not (eqb kind 11))) (and-both (leb 2 kind) (leb kind 14))
+
+pub number-so : (kind : ℕ) (b : Bool) → b ≡ isNumber kind → b ≡ true → isNumber kind ≡ true
+number-so kind b is h = sym is ∙ h
 
 -- a number's kind is a primitive other than those that have their own way
 module _ (kind : ℕ) (num : isNumber kind ≡ true) where

@@ -6,11 +6,13 @@ ghost use mathlib.Core.Bool.{true, false};
 ghost use Rattle.kinds.specs.Kinds.{alignOf, storedOf};
 ghost use Prim.Native.Nat.{_+_, _*_, _≤_, _<_};
 ghost use lib.ListN.{length};
-ghost use Rattle.table.specs.Rows.{capacity, room, noRoom};
+ghost use Rattle.table.specs.Rows.{capacity, room, rowAt, noRoom};
 ghost use Rattle.table.specs.Code.Rows.{Filled};
 ghost use Rattle.values.specs.Scalar.{scalarOf};
 ghost use Rattle.values.specs.List.{elementsFrom};
+ghost use Rattle.values.specs.Code.Lists.{plainOf};
 ghost use Rattle.values.specs.Code.Quick.{isNumber, isTaken, Quickly, rowsFrom, WhereThere};
+ghost use mathlib.Core.Bool.{Bool};
 use crate::scalar::word_of;
 use kinds::names::BOOLEAN;
 use kinds::names::BYTE;
@@ -22,6 +24,7 @@ use kinds::names::INT8;
 use kinds::names::INT16;
 use kinds::names::INT32;
 use kinds::names::INT64;
+use kinds::names::SEQUENCE;
 use kinds::names::STRING8;
 use kinds::names::UINT8;
 use kinds::names::UINT16;
@@ -261,6 +264,35 @@ pub fn found_value_at(
     }
 }
 
+// The same in few arms, where a call is as good: it is not copied into who asks for it, so that a function with many such places stays short.
+pub fn any_at(
+    s: &[u8],
+    set: Settings,
+    t: &mut [u64],
+    kind: u8,
+    id: u64,
+    at: Cursor,
+    n: usize,
+) -> usize
+    ensures { λ r. ⌜ Quickly (scalarOf (now (s .entry)) set kind id at (room (now (t .entry)) n)) 1 n (at .origin) (now (t .entry)) (now (t .exit)) r ⌝ }
+{
+    if is_full(t, n) {
+        return 0;
+    }
+    match kind {
+        BOOLEAN => boolean_at(s, set, t, id, at, n),
+        STRING8 => text_at(s, set, t, id, at, n),
+        _ => {
+            if is_number(kind) {
+                let row_kind = kinds::stored_of(kind) as u64;
+                let own_width = kinds::align_of(kind) as usize;
+                return number_at(s, set, t, kind, row_kind, own_width, id, at, n);
+            }
+            0
+        }
+    }
+}
+
 // The rows of a list's numbers. Nothing is asked in the loop, so the machine may take several at once.
 fn fill(
     s: &[u8],
@@ -344,7 +376,7 @@ fn end_of(s: &[u8], t: &[u64], width: usize, count: u64, pos: usize, n: usize) -
     pos + k * width
 }
 
-// A whole list of numbers.
+// The numbers of a whole list; of an empty one whatever they would be.
 pub fn numbers_at(
     s: &[u8],
     set: Settings,
@@ -358,6 +390,9 @@ pub fn numbers_at(
 {
     let from = at.pos;
     let origin = at.origin;
+    if count == 0 {
+        return from;
+    }
     if !is_number(kind) {
         return 0;
     }
@@ -379,4 +414,43 @@ pub fn numbers_at(
             end
         }
     }
+}
+
+// A list: its row, once its numbers have theirs. A number has a byte at least, so where the data has fewer bytes it has not all of them; and the block that is
+// asked for before a list of bytes is there.
+pub fn list_at(
+    s: &[u8],
+    set: Settings,
+    t: &mut [u64],
+    kind: u8,
+    id: u64,
+    count: u64,
+    at: Cursor,
+    n: usize,
+) -> usize
+    ensures { λ r. ⌜ ((bytes : Bool) → Quickly (plainOf bytes (now (s .entry)) set kind id count at (room (now (t .entry)) n)) (1 + count) n (at .origin) (now (t .entry)) (now (t .exit)) r) × (0 < r → rowAt (now (t .exit)) n .b ≡ count) ⌝ }
+{
+    let from = at.pos;
+    let end = s.len();
+    if is_full(t, n) {
+        return 0;
+    }
+    if end < from {
+        return 0;
+    }
+    if ((end - from) as u64) < count {
+        return 0;
+    }
+    let past = numbers_at(s, set, t, kind, count, at, n + 1);
+    if 0 < past {
+        let row = Row {
+            kind: kinds::stored_of(SEQUENCE) as u64,
+            id,
+            a: kinds::stored_of(kind) as u64,
+            b: count,
+            place: from as u64,
+        };
+        put_row(t, n, row);
+    }
+    past
 }

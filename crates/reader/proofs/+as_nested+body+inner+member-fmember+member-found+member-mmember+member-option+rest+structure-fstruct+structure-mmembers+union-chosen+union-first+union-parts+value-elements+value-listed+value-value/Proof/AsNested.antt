@@ -6,7 +6,7 @@ use Rattle.wire.specs.Place.{cursorAt}
 use Rattle.table.proofs.Outcomes.{count-from, count-past}
 use Rattle.values.proofs.Scalars.{row-next}
 use Rattle.reader.specs.Code.Cycle.{nest, runIn}
-use Rattle.reader.proofs.NestedSteps.{nested-unfit, nested-deep, nested-full, nested-read, nested-short, nested-refused, place-kept}
+use Rattle.reader.proofs.NestedSteps.{nested-unfit, nested-deep, nested-full, nested-read, nested-short, nested-refused, stored-again, place-kept}
 use Rattle.reader.proofs.RunSteps.{RunSofar, run-turn, run-short, run-refused, run-end, run-long, next-fits, nearer}
 use borrow.Author.Needs.{needs}
 use Prim.Native.Nat.{ℕ}
@@ -16,15 +16,15 @@ use Rattle.reader.proofs.+as_nested+body+inner+member-fmember+member-fo
 use Rattle.reader.proofs.body.Reads as body
 use Rattle.book.proofs.index.place.Reads as place-reads
 use Rattle.kinds.proofs.opens.Reads as opens-reads
+use Rattle.kinds.proofs.stored_of.Reads as stored-of-reads
 use Rattle.reader.proofs.types.kind_at.Reads as kind-at-reads
-use Rattle.reader.proofs.types.row_kind.Reads as row-kind-reads
 use Rattle.table.proofs.rows.is_full.Reads as is-full-reads
 use Rattle.table.proofs.rows.put_row.Reads as put-row-reads
 use Rattle.wire.proofs.cursor.Cursor.new.Reads as new-reads
 use Rattle.reader.proofs.Rules.{as-nested-laws}
 
 abbrev E : ℕ → lts.Claims
-E t = (place-reads.Asked, place-reads.Learnt, kind-at-reads.Asked, kind-at-reads.Learnt, opens-reads.Asked, opens-reads.Learnt, is-full-reads.Asked, is-full-reads.Learnt, new-reads.Asked, new-reads.Learnt, body-below t, body.Post, row-kind-reads.Asked, row-kind-reads.Learnt, put-row-reads.Asked, put-row-reads.Learnt)
+E t = (place-reads.Asked, place-reads.Learnt, kind-at-reads.Asked, kind-at-reads.Learnt, opens-reads.Asked, opens-reads.Learnt, is-full-reads.Asked, is-full-reads.Learnt, new-reads.Asked, new-reads.Learnt, body-below t, body.Post, stored-of-reads.Asked, stored-of-reads.Learnt, put-row-reads.Asked, put-row-reads.Learnt)
 
 abbrev Inv-loop : lts.InvT-loop
 Inv-loop book index s set t₀ ty id count n depth at kind i₀ number₀ pos₀ origin₀ m₀ t i number pos origin m = RunSofar (nest book index s set depth) s ty count (runIn book index s set depth ty number₀ count (cursorAt pos₀ origin₀) (room t₀ n)) n t₀ t number i (cursorAt pos origin) m
@@ -59,12 +59,13 @@ closed t =
     (λ c. search (needs, as-nested-laws))  -- enum-known-e
     (λ c. count-from (c .before .before .before .before .before .body .ensures) (c .before .e .given .1))  -- sub-rows
     (λ c. count-past _ (c .before .before .before .before .before .body .ensures) (c .before .e .given .1))  -- sub-beneath
-    (λ c κs. search (needs, as-nested-laws))  -- row-kind-requires
-    (λ c. search (needs, as-nested-laws))  -- cast-t41
-    (λ c κs. place-kept _ _ _ _ _ _ (c .before .before .before .before .before .before .before .before .before .before .before .is-full .ensures) (c .before .before .before .before .before .before .before .before .before .before .if3 .left) (c .before .before .before .before .before .before .before .body .ensures))  -- put-row-requires
-    (λ c. next-fits _ _ (c .before .before .before .before .before .before .before .before .before .before .before .before .before .before .before .before .before .before .before .loop-test .taken) (c .before .before .before .before .before .before .before .before .before .before .before .before .before .before .before .before .before .before .before .before .before .before .before .before .before .before .before .fits .count))  -- add-i
-    (λ c. nearer _ _ (c .before .before .before .before .before .before .before .before .before .before .before .before .before .before .before .before .before .before .before .loop-test .taken))  -- loop-less
-    (λ c. run-turn (c .before .before .before .before .before .before .before .before .before .before .before .before .before .before .before .before .before .before .before .before .loop .inv) (c .before .before .before .before .before .before .before .before .before .before .before .before .before .before .before .before .before .before .before .loop-test .taken) (nested-read (c .before .before .before .before .before .before .before .before .before .before .before .before .before .before .before .before .before .before .before .before .before .before .place .ensures) (c .before .before .before .before .before .before .before .before .before .before .before .before .before .before .before .before .before .before .before .before .before .kind-at .ensures) (c .before .before .before .before .before .before .before .before .before .before .before .before .before .before .before .before .before .before .opens .ensures) _ _ _ _ _ _ _ (c .before .before .before .before .before .before .before .before .before .before .before .before .before .before .before .before .before .if1 .left) (c .before .before .before .before .before .before .before .before .before .before .before .before .before .before .before .before .if2 .left) _ (c .before .before .before .before .before .before .before .before .before .before .before .before .before .before .is-full .ensures) (c .before .before .before .before .before .before .before .before .before .before .before .before .before .if3 .left) (c .before .before .before .before .before .before .before .before .before .before .before .new .ensures) (c .before .before .before .before .before .before .before .before .before .before .body .ensures) _ _ _ (search needs) (c .before .before .before .before .row-kind .ensures) (c .before .before .put-row .ensures)) refl)  -- loop-again
+    (λ c κs. search (needs, as-nested-laws))  -- kind-at-requires-2
+    (λ c κs. search (needs, as-nested-laws))  -- stored-of-requires
+    (λ c. search (needs, as-nested-laws))  -- cast-t42
+    (λ c κs. place-kept _ _ _ _ _ _ (c .before .before .before .before .before .before .before .before .before .before .before .before .is-full .ensures) (c .before .before .before .before .before .before .before .before .before .before .before .if3 .left) (c .before .before .before .before .before .before .before .before .body .ensures))  -- put-row-requires
+    (λ c. next-fits _ _ (c .before .before .before .before .before .before .before .before .before .before .before .before .before .before .before .before .before .before .before .before .loop-test .taken) (c .before .before .before .before .before .before .before .before .before .before .before .before .before .before .before .before .before .before .before .before .before .before .before .before .before .before .before .before .fits .count))  -- add-i
+    (λ c. nearer _ _ (c .before .before .before .before .before .before .before .before .before .before .before .before .before .before .before .before .before .before .before .before .loop-test .taken))  -- loop-less
+    (λ c. run-turn (c .before .before .before .before .before .before .before .before .before .before .before .before .before .before .before .before .before .before .before .before .before .loop .inv) (c .before .before .before .before .before .before .before .before .before .before .before .before .before .before .before .before .before .before .before .before .loop-test .taken) (nested-read (c .before .before .before .before .before .before .before .before .before .before .before .before .before .before .before .before .before .before .before .before .before .before .before .place .ensures) (c .before .before .before .before .before .before .before .before .before .before .before .before .before .before .before .before .before .before .before .before .before .before .kind-at .ensures) (c .before .before .before .before .before .before .before .before .before .before .before .before .before .before .before .before .before .before .before .opens .ensures) _ _ _ _ _ _ _ (c .before .before .before .before .before .before .before .before .before .before .before .before .before .before .before .before .before .before .if1 .left) (c .before .before .before .before .before .before .before .before .before .before .before .before .before .before .before .before .before .if2 .left) _ (c .before .before .before .before .before .before .before .before .before .before .before .before .before .before .before .is-full .ensures) (c .before .before .before .before .before .before .before .before .before .before .before .before .before .before .if3 .left) (c .before .before .before .before .before .before .before .before .before .before .before .before .new .ensures) (c .before .before .before .before .before .before .before .before .before .before .before .body .ensures) _ _ _ (search needs) (stored-again _ _ _ (c .before .before .before .before .before .before .before .before .before .before .before .before .before .before .before .before .before .before .before .before .before .before .kind-at .ensures) (c .before .before .before .before .before .kind-at2 .ensures) (c .before .before .before .before .stored-of .ensures)) (c .before .before .put-row .ensures)) refl)  -- loop-again
     (λ c κs. search (needs, as-nested-laws))  -- new-requires-2
     (λ c. search (needs, as-nested-laws))  -- same-length-6
     (λ c. run-end (c .before .before .loop .inv) (c .before .loop-test .left) (c .new2 .ensures))  -- returns-6

@@ -11,11 +11,13 @@ use Rattle.kinds.proofs.opens.Reads as opens-reads
 use Rattle.kinds.proofs.unsupported_member.Reads as unsupported-member-reads
 use Rattle.reader.proofs.types.kind_at.Reads as kind-at-reads
 use Rattle.reader.proofs.types.read_as.Reads as read-as-reads
+use Rattle.values.proofs.quick.any_at.Reads as any-at-reads
 use Rattle.values.proofs.scalar.scalar.Reads as scalar-reads
+use Rattle.wire.proofs.cursor.Cursor.new.Reads as new-reads
 use Rattle.reader.proofs.Rules.{value-laws}
 
 abbrev E : ℕ → lts.Claims
-E t = (place-reads.Asked, place-reads.Learnt, kind-at-reads.Asked, kind-at-reads.Learnt, unsupported-member-reads.Asked, unsupported-member-reads.Learnt, opens-reads.Asked, opens-reads.Learnt, as-nested-below t, as-nested.Post, value·listed-below t, value·listed.Post, read-as-reads.Asked, read-as-reads.Learnt, scalar-reads.Asked, scalar-reads.Learnt)
+E t = (place-reads.Asked, place-reads.Learnt, kind-at-reads.Asked, kind-at-reads.Learnt, unsupported-member-reads.Asked, unsupported-member-reads.Learnt, opens-reads.Asked, opens-reads.Learnt, as-nested-below t, as-nested.Post, value·listed-below t, value·listed.Post, read-as-reads.Asked, read-as-reads.Learnt, any-at-reads.Asked, any-at-reads.Learnt, new-reads.Asked, new-reads.Learnt, scalar-reads.Asked, scalar-reads.Learnt)
 
 pub closed : (t : ℕ) {M : Type 1} → lts.Closed (E t) (value·value-at t) value·value.Post M
 closed t =
@@ -33,6 +35,11 @@ closed t =
     (λ c. search (needs, value-laws))  -- same-length-2
     (λ c. search (needs, value-laws))  -- returns-4
     (λ c κs. search (needs, value-laws))  -- read-as-requires
-    (λ c κs. search (needs, value-laws))  -- scalar-requires
+    (λ c κs. search (needs, value-laws))  -- any-at-requires
+    (λ c κs. search (needs, value-laws))  -- new-requires
+    (λ c. search (needs, value-laws))  -- add-t28
     (λ c. search (needs, value-laws))  -- same-length-3
     (λ c. search (needs, value-laws))  -- returns-5
+    (λ c κs. search (needs, value-laws))  -- scalar-requires
+    (λ c. search (needs, value-laws))  -- same-length-4
+    (λ c. search (needs, value-laws))  -- returns-6
