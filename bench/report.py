@@ -1,6 +1,7 @@
 #!/usr/bin/env python3
 """report.py WHAT DIR: the tables of a run, and the goals that it misses. DIR has what the program wrote (count, time, stack) and
 callgrind's counts (cg.1, cg.2, ..). From every number that of an empty call is taken away."""
+import os
 import re
 import sys
 
@@ -100,10 +101,10 @@ def flat(all, unit):
         missed.append(f"{unit} a byte is not flat from 1 KB to 64 KB")
 
 
-def stack():
-    all = lines("stack")
+def stack(name, of):
+    all = lines(name)
     empty = all["-"]["empty"]
-    print("\nbytes of stack below the caller")
+    print(f"\nbytes of stack below the caller, {of} code")
     for m in ["heartbeat", "nest F1 LE", "nest M2 LE"]:
         print(f"{m:<12}" + "".join(f"  {s} {all[m][s] - empty:.0f}" for s in ["crate", "prepared", "whole"]))
     deep = [m for m in all if m.startswith(("16 Final", "16 Appendable", "16 Mutable"))]
@@ -151,7 +152,9 @@ if what in ("time", "all"):
     flat(own, "nanoseconds")
     trucks("nanoseconds a message that real DDS wrote, best", real)
 if what in ("stack", "all"):
-    stack()
+    stack("stack", "x86-64")
+    if os.path.exists(f"{folder}/stack-native"):
+        stack("stack-native", "aarch64")
 print(f"\n{len(missed)} goals missed" + (": a ratio with * is over its goal" if missed else ""))
 for m in missed:
     print("* " + m)

@@ -8,7 +8,11 @@ unsigned long stack_of(void (*call)(void *), void *side)
     unsigned long deepest = 0;
     for (int colour = 0x5A; colour < 0x100; colour += 0x5A) {
         volatile u8 *sp, *p;
+#ifdef __aarch64__
+        __asm__ volatile("mov %0,sp" : "=r"(sp));
+#else
         __asm__ volatile("mov %%rsp,%0" : "=r"(sp));
+#endif
         for (p = sp - DEEPEST; p < sp; p++)
             *p = colour;
         call(side);

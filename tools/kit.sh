@@ -30,11 +30,13 @@ module_text() { # MODULE.bc FILE.ll
     "$tools/bin/clang" --target=$x86 -x ir "$1" -S -emit-llvm -O0 -Xclang -disable-llvm-passes -o "$2"
 }
 
-# The same module for aarch64: the three places that say x86-64 are taken out, and rt's own flags are kept.
+# The same module for aarch64: the three places that say x86-64 are taken out, and rt's own flags are kept. One is added: how large a function may be that is
+# copied into who calls it. A call hands slices and answers over by memory, and a processor waits for these; with 1000, where LLVM has 225, a truck's message is
+# read in three quarters of the time (docs/SPEED.md). For x86-64 rt compiles, and has no such flag.
 module_for_arm() { # FILE.ll OBJECT
     sed -e '/^target datalayout/d' -e 's/^target triple = .*/target triple = "aarch64-unknown-linux-gnu"/' -e 's/ "target-cpu"="x86-64"//' "$1" >"${2%.o}.ll"
     "$tools/bin/clang" --target=aarch64-unknown-linux-gnu -x ir "${2%.o}.ll" -c -O3 -fPIC -mllvm -trap-unreachable -mllvm -no-trap-after-noreturn \
-        -Wno-override-module -o "$2"
+        -mllvm -inline-threshold=1000 -Wno-override-module -o "$2"
 }
 
 # The words that run an x86-64 program which was linked for the kit's C library: by the kit's emulator where the machine is another.

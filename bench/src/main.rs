@@ -52,15 +52,8 @@ extern "C" fn bench_mark() {
     black_box(0);
 }
 
-#[cfg(not(native))]
 extern "C" {
     fn stack_of(call: extern "C" fn(*mut Side), side: *mut Side) -> u64;
-}
-
-/// The stack is measured on x86-64 code alone: stack.c knows its stack pointer.
-#[cfg(native)]
-unsafe fn stack_of(_: extern "C" fn(*mut Side), _: *mut Side) -> u64 {
-    panic!("bench: the stack of x86-64 code alone is measured")
 }
 
 /// The rows of a message, after a check that the port and the crate agree on it; or the number that both refuse it with.
