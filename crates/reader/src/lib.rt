@@ -198,8 +198,8 @@ pub fn inner(
     union::parts(book, index, s, set, t, at, mutable, c, n, depth)
 }
 
-// A member of a Final or Appendable type that is not taken where it stands. A value that is opened is opened from here, which `value` would
-// do too: the compiler takes this into the structure's loop.
+// A member of a Final or Appendable type that is no number, boolean or text which stands there. A value that is opened is opened from here, which `value` would
+// do too, and a list of numbers is taken from here: the compiler takes this into the structure's loop.
 pub fn rest(
     book: &[u8],
     index: &[u32],

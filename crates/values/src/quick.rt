@@ -2,7 +2,7 @@
 // rules as `scalar`, and leaves to that whatever it does not take. A function here tells the position after what it took; or 0, and nothing is done. A word,
 // and not an enum, is what a call hands back in a register.
 ghost use mathlib.Core.Path.{_≡_};
-ghost use mathlib.Core.Bool.{true, false};
+ghost use mathlib.Core.Bool.{Bool, true, false};
 ghost use Rattle.kinds.specs.Kinds.{alignOf, storedOf};
 ghost use Prim.Native.Nat.{_+_, _*_, _≤_, _<_};
 ghost use lib.ListN.{length};
@@ -12,7 +12,6 @@ ghost use Rattle.values.specs.Scalar.{scalarOf};
 ghost use Rattle.values.specs.List.{elementsFrom};
 ghost use Rattle.values.specs.Code.Lists.{plainOf};
 ghost use Rattle.values.specs.Code.Quick.{isNumber, isTaken, Quickly, rowsFrom, WhereThere};
-ghost use mathlib.Core.Bool.{Bool};
 use crate::scalar::word_of;
 use kinds::names::BOOLEAN;
 use kinds::names::BYTE;
@@ -264,7 +263,8 @@ pub fn found_value_at(
     }
 }
 
-// The same in few arms, where a call is as good: it is not copied into who asks for it, so that a function with many such places stays short.
+// The same by three arms, with the entries of a number's kind looked up as it runs: for what the members' loops do not take, an optional member or one that a
+// union selects.
 pub fn any_at(
     s: &[u8],
     set: Settings,
