@@ -7,10 +7,12 @@ use native.Mathlib.Omega.{arith}
 use lib.ListN.{length}
 use lib.Dec.{eqb}
 use borrow.Author.Tests.{eq-eqb, ne-eqb, lt-ltb, le-ltb}
-use Rattle.ground.specs.Choice.{both}
+use Rattle.ground.specs.Choice.{pick, both, _‥_, within}
 use Rattle.wire.specs.Place.{cursorAt, alignmentOf, paddingOf, seekTo, alignTo, afterMove}
 use Rattle.wire.specs.Number.{numberAt, readNumber, afterNumber}
 use Rattle.wire.specs.declared.settings.Settings.{Settings}
+use Rattle.wire.specs.declared.settings.Mode.{Mode}
+use Rattle.wire.specs.declared.settings.Mode.the-variants.{Crate, Standard}
 use Rattle.wire.specs.declared.settings.Version.{Version}
 use Rattle.wire.specs.declared.settings.Version.the-variants.{Xcdr1, Xcdr2}
 use Rattle.wire.specs.declared.cursor.Cursor.{Cursor}
@@ -80,15 +82,15 @@ module _ (s : List ℕ) (set : Settings) (id : ℕ) (at y : Cursor) (n : ℕ) (k
         ∙ sym (by-turns s set (set .version) w (cursorAt q (at .origin))),
   )
 
-  settled : (m value next : ℕ) → turnBy s set (set .version) id at ≡ Done (Found m (cursorAt value (at .origin))) → (set .version ≡ Xcdr1 → 0 < m) → PassedTo s y n next → AheadAt s set id at m next value
+  settled : (m value next : ℕ) → turnBy s set (set .version) id at ≡ Done (Found m (cursorAt value (at .origin))) → (set .version ≡ Xcdr1 → 0 < m) → PassedTo s y n next → value + m ≤ length s + 2 ^ 36 → AheadAt s set id at m next value
   unfolding AheadAt
-  settled m zero next hit some p = tt
-  settled m (suc v) next hit some p =
-      (by-turns s set (set .version) id at ∙ seek-done s (turnBy s set (set .version) id) at _ hit, some, own, next-is next p)
+  settled m zero next hit some p near = tt
+  settled m (suc v) next hit some p near =
+      (by-turns s set (set .version) id at ∙ seek-done s (turnBy s set (set .version) id) at _ hit, some, own, next-is next p, near)
 
-  made : (m value next : ℕ) (r : Ahead) → r ≡ aheadOf value m next → turnBy s set (set .version) id at ≡ Done (Found m (cursorAt value (at .origin))) → (set .version ≡ Xcdr1 → 0 < m) → PassedTo s y n next → AheadIs s set id at r
+  made : (m value next : ℕ) (r : Ahead) → r ≡ aheadOf value m next → turnBy s set (set .version) id at ≡ Done (Found m (cursorAt value (at .origin))) → (set .version ≡ Xcdr1 → 0 < m) → PassedTo s y n next → value + m ≤ length s + 2 ^ 36 → AheadIs s set id at r
   unfolding AheadIs
-  made m value next r e hit some p = rw e (settled m value next hit some p)
+  made m value next r e hit some p near = rw e (settled m value next hit some p near)
 
 -- past a value: the alignment to 4 is the same in both versions
 module _ (s : List ℕ) (pos n origin : ℕ) where
@@ -139,9 +141,19 @@ module _ (s : List ℕ) (set : Settings) (pos origin : ℕ) (head : HeadAt s pos
   read4 = read-aligned s set (cursorAt pos origin) 4 (rw (alignment-four (set .version)) no-padding) (head .inside)
 
   -- where NEXTINT is there too, it stands so as well
-  nextint-head : 4 ≤ length s - (pos + 4) → HeadAt s (pos + 4) origin
+  nextint-head : 8 ≤ length s - pos → HeadAt s (pos + 4) origin
   nextint-head h = let a = head .after in let b = head .aligned in let i = head .inside in
       record { after = omega arith; aligned = omega arith; inside = omega arith }
+
+-- the length that is found is the header's, or four more
+length-near : (mode : Mode) (lc n m : ℕ) → m ≡ xcdr2.lengthFrom mode lc n → m ≤ n + 4
+unfolding xcdr2.lengthFrom xcdr2.stepBack
+length-near Crate lc n m e = omega (arith, e)
+length-near Standard lc n m e = go (within (5 ‥ 7) lc) e
+  where
+    go : (x : Bool) → m ≡ n + pick x 4 0 → m ≤ n + 4
+    go true f = omega (arith, f)
+    go false f = omega (arith, f)
 
 -- an XCDR2 header
 module _ (s : List ℕ) (set : Settings) (pos origin : ℕ) (head : HeadAt s pos origin) (version : set .version ≡ Xcdr2) (v : ℕ) (is : v ≡ numberAt (set .order) 0 s pos 4) where
@@ -153,30 +165,32 @@ module _ (s : List ℕ) (set : Settings) (pos origin : ℕ) (head : HeadAt s pos
     judged2 : (w : ℕ) → turnBy s set (set .version) w (cursorAt pos origin) ≡ xcdr2.verdict s set w v n y
     judged2 w = by-turn2 s set (set .version) w (cursorAt pos origin) version ∙ turned2 w
 
-    ahead2 : (m value next : ℕ) (r : Ahead) → r ≡ aheadOf value m next → m ≡ xcdr2.lengthFrom (set .mode) (xcdr2.lcOf v) n → xcdr2.valueFrom (set .mode) (xcdr2.lcOf v) y ≡ cursorAt value origin → y .origin ≡ origin → PassedTo s y n next
+    ahead2 : (m value next : ℕ) (r : Ahead) → r ≡ aheadOf value m next → m ≡ xcdr2.lengthFrom (set .mode) (xcdr2.lcOf v) n → xcdr2.valueFrom (set .mode) (xcdr2.lcOf v) y ≡ cursorAt value origin → y .origin ≡ origin → PassedTo s y n next → value + m ≤ length s + 2 ^ 36
         → AheadIs s set (xcdr2.idOf v) (cursorAt pos origin) r
     unfolding xcdr2.verdict
-    ahead2 m value next r e size back kept p =
+    ahead2 m value next r e size back kept p near =
         made s set (xcdr2.idOf v) (cursorAt pos origin) y n kept (own2 (set .version) v version) (λ w l. judged2 w ∙ (rw (ne-eqb (xcdr2.idOf v) w (let f = asked2 (set .version) w version in omega arith)))) m value next r e
-        (judged2 (xcdr2.idOf v) ∙ (rw (eq-eqb (xcdr2.idOf v) (xcdr2.idOf v) refl, ← size, back))) (λ first. only2 (set .version) m version first) p
+        (judged2 (xcdr2.idOf v) ∙ (rw (eq-eqb (xcdr2.idOf v) (xcdr2.idOf v) refl, ← size, back))) (λ first. only2 (set .version) m version first) p near
 
   -- a length code below 4 tells the length
-  pub ahead-fixed : (lc n next i id b : ℕ) → lc ≡ xcdr2.lcOf v → lc < 4 → n ≡ xcdr2.fixedLength lc → i ≡ xcdr2.idOf v → i ≡ id → PassedTo s (cursorAt (pos + 4) origin) n next → b ≡ xcdr2.stepBack (set .mode) lc
+  pub ahead-fixed : (lc n next i id b : ℕ) → lc ≡ xcdr2.lcOf v → lc < 4 → n ≡ xcdr2.fixedLength lc → n ≤ 8 → i ≡ xcdr2.idOf v → i ≡ id → PassedTo s (cursorAt (pos + 4) origin) n next → b ≡ xcdr2.stepBack (set .mode) lc
       → (m : ℕ) → m ≡ xcdr2.lengthFrom (set .mode) lc n → (r : Ahead) → r ≡ aheadOf (pos + 4 - b) m next → AheadIs s set id (cursorAt pos origin) r
   unfolding xcdr2.lengthOf xcdr2.lengthByLc
-  ahead-fixed lc n next i id b c l e named wanted p back m size r f =
-      rw (← wanted, named) (ahead2 n (cursorAt (pos + 4) origin) (rw (← c, lt-ltb _ _ l, ← e)) m (pos + 4 - b) next r f (rw (← c) size) (rw (← c, ← back)) refl p)
+  ahead-fixed lc n next i id b c l e few named wanted p back m size r f =
+      let near : pos + 4 - b + m ≤ length s + 2 ^ 36 = omega (arith, length-near (set .mode) lc n m size, head .inside) in
+      rw (← wanted, named) (ahead2 n (cursorAt (pos + 4) origin) (rw (← c, lt-ltb _ _ l, ← e)) m (pos + 4 - b) next r f (rw (← c) size) (rw (← c, ← back)) refl p near)
 
 -- a length code from 4 on has it in NEXTINT
-module _ (s : List ℕ) (set : Settings) (v pos origin : ℕ) (long : LongHead s set v pos origin) (there : 4 ≤ length s - (pos + 4)) (m u : ℕ) (is : m ≡ numberAt (set .order) 0 s (pos + 4) 4) (lc : ℕ) (code : lc ≡ xcdr2.lcOf v) (unit : u ≡ xcdr2.unitOf lc) where
+module _ (s : List ℕ) (set : Settings) (v pos origin : ℕ) (long : LongHead s set v pos origin) (there : 8 ≤ length s - pos) (m u : ℕ) (is : m ≡ numberAt (set .order) 0 s (pos + 4) 4) (lc : ℕ) (code : lc ≡ xcdr2.lcOf v) (unit : u ≡ xcdr2.unitOf lc) where
   told-long : xcdr2.lengthOf s set v (cursorAt (pos + 4) origin) ≡ number.Got (m * u) (cursorAt (pos + 4 + 4) origin)
   unfolding xcdr2.lengthOf xcdr2.lengthByLc xcdr2.nextintTimes afterNumber
   told-long = rw (le-ltb _ _ (long .code), read4 s set (pos + 4) origin (nextint-head s set pos origin (long .head) there), ← is, ← code, ← unit)
 
-  pub ahead-long : (next b : ℕ) → PassedTo s (cursorAt (pos + 4 + 4) origin) (m * u) next → b ≡ xcdr2.stepBack (set .mode) lc
+  pub ahead-long : (next b : ℕ) → m * u ≤ 2 ^ 35 → PassedTo s (cursorAt (pos + 4 + 4) origin) (m * u) next → b ≡ xcdr2.stepBack (set .mode) lc
       → (k : ℕ) → k ≡ xcdr2.lengthFrom (set .mode) lc (m * u) → (r : Ahead) → r ≡ aheadOf (pos + 4 + 4 - b) k next → AheadIs s set (xcdr2.idOf v) (cursorAt pos origin) r
-  ahead-long next b p back k size r f =
-      ahead2 s set pos origin (long .head) (long .version) v (long .is) (m * u) _ told-long k (pos + 4 + 4 - b) next r f (rw (← code) size) (rw (← code, ← back)) refl p
+  ahead-long next b few p back k size r f =
+      let near : pos + 4 + 4 - b + k ≤ length s + 2 ^ 36 = omega (arith, length-near (set .mode) lc (m * u) k size, there) in
+      ahead2 s set pos origin (long .head) (long .version) v (long .is) (m * u) _ told-long k (pos + 4 + 4 - b) next r f (rw (← code) size) (rw (← code, ← back)) refl p near
 
 -- a value that is not empty is not the end
 not-end : (id n : ℕ) → (n ≡ 0 → ⊥) → xcdr1.isEnd id n ≡ false
@@ -211,16 +225,17 @@ module _ (s : List ℕ) (set : Settings) (pos origin : ℕ) (head : HeadAt s pos
     judged1 : (w : ℕ) → turnBy s set (set .version) w (cursorAt pos origin) ≡ xcdr1.verdict s set w (v % 16384) n (cursorAt (pos + 4) origin)
     judged1 w = by-turn1 s set (set .version) w (cursorAt pos origin) version ∙ turned1 w
 
-    pub ahead1 : (i id next : ℕ) → i ≡ xcdr1.idOf v → i ≡ id → (n ≡ 0 → ⊥) → PassedTo s (cursorAt (pos + 4) origin) n next
+    pub ahead1 : (i id next : ℕ) → i ≡ xcdr1.idOf v → i ≡ id → (n ≡ 0 → ⊥) → n < 256 ^ 2 → PassedTo s (cursorAt (pos + 4) origin) n next
         → (r : Ahead) → r ≡ aheadOf (pos + 4) n next → AheadIs s set id (cursorAt pos origin) r
     unfolding xcdr1.verdict
-    ahead1 i id next named wanted some p r f =
+    ahead1 i id next named wanted some few p r f =
+        let near : pos + 4 + n ≤ length s + 2 ^ 36 = omega (arith, head .inside) in
         let e : v % 16384 ≡ id = sym named ∙ wanted in
         let on : xcdr1.isEnd (v % 16384) n ≡ false = not-end (v % 16384) n some in
         rw (← e)
         (made s set (v % 16384) (cursorAt pos origin) (cursorAt (pos + 4) origin) n refl (own1 (set .version) v version)
         (λ w l. judged1 w ∙ (rw (on, ne-eqb (v % 16384) (w % 65536) (let f = asked1 (set .version) w version in omega arith)))) n (pos + 4) next r f
-        (judged1 (v % 16384) ∙ (rw (on, eq-eqb (v % 16384) (v % 16384 % 65536) (omega arith)))) (λ first. omega arith) p)
+        (judged1 (v % 16384) ∙ (rw (on, eq-eqb (v % 16384) (v % 16384 % 65536) (omega arith)))) (λ first. omega arith) p near)
 
 -- nothing is said, or the same under the wanted id's own name
 pub ahead-none : (s : List ℕ) (set : Settings) (id : ℕ) (at : Cursor) (r : Ahead) → r ≡ aheadOf 0 0 0 → AheadIs s set id at r
@@ -258,6 +273,10 @@ module _ (s : List ℕ) (set : Settings) where
   pub ahead-small : (id v : ℕ) (at : Cursor) (r : Ahead) → AheadIs s set id at r → r .value ≡ suc v → id < 2 ^ 28
   unfolding AheadIs AheadAt
   ahead-small id v at r is some = let a = rw some at is in a .2 .small
+
+  pub ahead-near : (id v : ℕ) (at : Cursor) (r : Ahead) → AheadIs s set id at r → r .value ≡ suc v → r .value + r .length ≤ length s + 2 ^ 36
+  unfolding AheadIs AheadAt
+  ahead-near id v at r is some = let a = rw some at is in rw some (a .4)
 
   pub ahead-next : (id least v : ℕ) (back at : Cursor) (r : Ahead) → Leads s set back at least → least ≤ id + 1 → AheadIs s set id at r → r .value ≡ suc v → r .next + 4 ≤ length s
       → Leads s set back (cursorAt (r .next) (at .origin)) (id + 1)

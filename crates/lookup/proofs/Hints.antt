@@ -21,7 +21,7 @@ use Rattle.lookup.specs.declared.ahead.Ahead.{Ahead}
 use Rattle.lookup.specs.declared.ahead.Hint.{Hint}
 use Rattle.lookup.specs.declared.ahead.Start.the-variants as start
 use Rattle.lookup.specs.Code.Ahead.{AheadIs, aheadOf, valueAt, HeadAt, HeadOrEnd, firstLookup, StartIs, TrueHint, hintAt, hintAfter, HeaderAhead}
-use Rattle.lookup.proofs.Aheads.{lead-refl, ahead-located, ahead-small, ahead-next, ahead-place, lead-sentinel}
+use Rattle.lookup.proofs.Aheads.{lead-refl, ahead-located, ahead-small, ahead-near, ahead-next, ahead-place, lead-sentinel}
 
 -- nothing is known at first but the start itself, and at the data's end nothing at all
 pub true-start : (s : List ℕ) (set : Settings) (back : Cursor) (h : Hint) → h ≡ hintAt (back .pos) → back .origin ≤ back .pos → back .pos ≤ length s → (back .pos - back .origin) % 4 ≡ 0 → TrueHint s set back (back .origin) h
@@ -35,14 +35,14 @@ true-nowhere s set back origin h f = let e : h .next ≡ length s = ap (λ (x : 
 pub ahead-nothing : (s : List ℕ) (set : Settings) (id : ℕ) (h : Hint) (origin : ℕ) (r : Ahead) → r ≡ aheadOf 0 0 0 → HeaderAhead s set id h origin r
 ahead-nothing s set id h origin r e =
     let z : r .value ≡ 0 = ap (λ (x : Ahead). x .value) e in
-    record { small = λ k. absurd (omega arith); found = λ back al hint k. absurd (omega arith); on = λ back hint k. absurd (omega arith) }
+    record { small = λ k. absurd (omega arith); near = λ k. absurd (omega arith); found = λ back al hint k. absurd (omega arith); on = λ back hint k. absurd (omega arith) }
 
 -- a header stands there, where four bytes are left
 pub head-there : (s : List ℕ) (pos origin : ℕ) → HeadOrEnd s pos origin → 4 ≤ length s - pos → HeadAt s pos origin
 head-there s pos origin h k = let i = h .inside in h .head (omega arith)
 
 pub ahead-at : (s : List ℕ) (set : Settings) (id : ℕ) (h : Hint) (origin : ℕ) (r : Ahead) → h .least ≤ id → HeadOrEnd s (h .next) origin → 4 ≤ length s - h .next → AheadIs s set id (cursorAt (h .next) origin) r → HeaderAhead s set id h origin r
-ahead-at s set id h origin r from near left is = record { small = λ k. ahead-small s set id _ _ r is (more k); found = at-it; on = further }
+ahead-at s set id h origin r from near left is = record { small = λ k. ahead-small s set id _ _ r is (more k); near = λ k. ahead-near s set id _ _ r is (more k); found = at-it; on = further }
   where
     there : h .next + 4 ≤ length s
     there = head-there s (h .next) origin near left .inside

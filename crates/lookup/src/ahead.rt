@@ -68,7 +68,7 @@ fn with_nextint(s: &[u8], set: Settings, emheader: u64, pos: usize, origin: usiz
     let order = set.order;
     let mode = set.mode;
     let head = pos + 4;
-    if s.len() - head < 4 {
+    if s.len() - pos < 8 {
         return no_header();
     }
     let code = lc(emheader);

@@ -34,13 +34,14 @@ pub delimited-is : (t : BookType) (e : ℕ) → e ≡ t .extensibility → (eqb 
 unfolding isDelimited
 delimited-is t e f = let a : (eqb e 1 || eqb e 2) ≡ among (1 ∷ 2 ∷ []) e = simp or-false in a ∙ ap (λ (x : ℕ). among (1 ∷ 2 ∷ []) x) f
 
-pub unheard-is : (set : Settings) (t : BookType) (x y : Bool) (k : ℕ) → x ≡ keepsEnds set → y ≡ isMutable t → k ≡ t .kind → ((not x && y) && not (eqb k 22)) ≡ mayFailUnheard set t
-unfolding mayFailUnheard isStructure
-unheard-is set t x y k e f g = rw (← e, ← f, ← g) (go x y (not (eqb k 22)))
-  where
-    go : (a b c : Bool) → ((not a && b) && c) ≡ both (not a) (both b c)
-    go true b c = refl
-    go false b c = and-both b c
+module _ (set : Settings) (t : BookType) (x : Bool) (e : x ≡ keepsEnds set) where
+  pub unheard-never : x ≡ true → false ≡ mayFailUnheard set t
+  unfolding mayFailUnheard
+  unheard-never f = rw (← e, f)
+
+  pub unheard-is : x ≡ false → (y : Bool) (k : ℕ) → y ≡ isMutable t → k ≡ t .kind → (y && not (eqb k 22)) ≡ mayFailUnheard set t
+  unfolding mayFailUnheard isStructure
+  unheard-is f y k g h = rw (← e, f, ← g, ← h) (and-both y (not (eqb k 22)))
 
 pub absorbs-is : (t : BookType) (m : Member) (e k : ℕ) → e ≡ t .extensibility → k ≡ m .construct → (eqb e 1 || eqb k 0) ≡ absorbs t m
 unfolding absorbs

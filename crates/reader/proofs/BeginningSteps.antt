@@ -28,7 +28,7 @@ use Rattle.table.specs.Outcome.{read}
 use Rattle.table.specs.Code.Outcome.{Done}
 use Rattle.table.proofs.Filling.{filled-none}
 use Rattle.table.proofs.Outcomes.{is-read, is-short}
-use Rattle.reader.specs.Code.Ending.{standingAt, endingAt}
+use Rattle.reader.specs.Code.Ending.{endingAt}
 use Rattle.reader.specs.Nested.{isDelimited, unheard, unheardIf, mayFailUnheard, beginningOf, endingBy}
 
 module _ (s : List ℕ) (set : Settings) (b : List ℕ) (at : ℕ) (c : Cursor) (o : Bool) (delimited : o ≡ isDelimited (typeAt b at)) (g : Contents) (is : g ≡ contentsAt s set o c) where
@@ -63,20 +63,8 @@ module _ (s : List ℕ) (set : Settings) (b : List ℕ) (at : ℕ) (c : Cursor) 
     unfolding unheardIf
     beginning-short f = sym (by (Short x) q ∙ rw (sym may ∙ f))
 
--- what a DHEADER's end makes of an answer
+-- what a list's DHEADER makes of its answer
 module _ (end : ℕ) (o : Out) where
-  pub standing-read : (c : Cursor) (n : ℕ) → o ≡ out.Read c n → (d : Cursor) → d ≡ cursorAt end (c .origin) → out.Read d n ≡ standingAt end o
-  unfolding standingAt
-  standing-read c n q d e = rw (q, e)
-
-  pub standing-short : (x : Shortage) → o ≡ out.Short x → out.Short x ≡ standingAt end o
-  unfolding standingAt
-  standing-short x q = rw q
-
-  pub standing-refused : (k : Refusal) → o ≡ out.Refused k → out.Refused k ≡ standingAt end o
-  unfolding standingAt
-  standing-refused k q = rw q
-
   pub ending-read : (c : Cursor) (n : ℕ) → o ≡ out.Read c n → c .pos ≡ end → out.Read c n ≡ endingAt end o
   unfolding endingAt
   ending-read c n q e = rw (q, eq-eqb (c .pos) end e)

@@ -1,5 +1,5 @@
 -- Laws of the members of a Mutable structure: each by its lookup, and then the structure's end. Assumes nothing.
-use Prim.Native.Nat.{ℕ, suc, _+_, _-_, _^_, _≤_, _<_}
+use Prim.Native.Nat.{ℕ, suc, _+_, _-_, _*_, _^_, _≤_, _<_}
 use mathlib.Core.Path.{_≡_, refl, sym, ap, _∙_}
 use mathlib.Core.Bool.{Bool, true, false}
 use mathlib.Core.List.{List, [], _∷_}
@@ -256,9 +256,11 @@ pub found-at : (s : List ℕ) (set : Settings) (i : ℕ) {size : ℕ} {c d back 
 found-at s set i {size} {back = back} e f = f ∙ ap (λ (x : Cursor). located.Found size x back) (sym e)
 
 -- .. and of a member's own data
-pub own-at : (s : List ℕ) (set : Settings) (v o size : ℕ) {c : Cursor} {own : List ℕ} → c ≡ valueAt (set .version) v o → own ≡ cutAt set s (v + size) → own ≡ cutAt set s (c .pos + size)
+pub own-at : (s : List ℕ) (set : Settings) (v o size : ℕ) {c : Cursor} {own : List ℕ} → c ≡ valueAt (set .version) v o → own ≡ cutAt set s (0 + (v + size)) → own ≡ cutAt set s (c .pos + size)
 unfolding valueAt
-own-at s set v o size {c} e f = f ∙ ap (λ (p : ℕ). cutAt set s (p + size)) (sym (ap (λ (x : Cursor). x .pos) e ∙ go (set .version)))
+own-at s set v o size {c} e f =
+    let z : 0 + (v + size) ≡ c .pos + size = omega (arith, ap (λ (x : Cursor). x .pos) e ∙ go (set .version)) in
+    f ∙ ap (cutAt set s) z
   where
     go : (x : Version) → valueAt x v o .pos ≡ v
     go Xcdr1 = refl
@@ -266,6 +268,10 @@ own-at s set v o size {c} e f = f ∙ ap (λ (p : ℕ). cutAt set s (p + size)) 
 
 pub hint-on : (s : List ℕ) (set : Settings) (back : Cursor) (o : ℕ) (a : Ahead) {i j : ℕ} {g : Hint} → g ≡ hintAfter a i → i ≡ j → TrueHint s set back o (hintAfter a j) → TrueHint s set back o g
 hint-on s set back o a e f l = rw (e, f) l
+
+-- where a value ends is a number that fits
+pub sum-fits : (a b l : ℕ) → a + b ≤ l + 2 ^ 36 → l * 1 < 2 ^ 63 → Fits w64 (a + b)
+sum-fits a b l h k = omega (arith, h, k)
 
 -- each member leaves fewer
 pub fewer : {b : List ℕ} {ms ns : Run} → 0 < ms .left → After b ms ns → ns .left < ms .left

@@ -1,7 +1,8 @@
 -- Laws of members: what each return shows. Assumes nothing.
 use Prim.Native.Nat.{ℕ, _+_, _-_, _<_}
 use mathlib.Core.Path.{_≡_, refl, sym, ap, _∙_}
-use mathlib.Core.Bool.{Bool, true, false}
+use mathlib.Core.Bool.{Bool, true, false, not}
+use borrow.Author.Tests.{not-true}
 use mathlib.Core.List.{List, []}
 use native.Mathlib.Nat.{add-zero}
 use lib.ListN.{length}
@@ -113,20 +114,34 @@ module _ (b index s : List ℕ) (set : Settings) (nest : Nest) (p : ℕ) (c : Cu
         is-same (ap (λ (z : Bool). foundBy (typesBy b index) s set nest z m length c (room t n)) e ∙ rw (← type, ← named)) (value-opens b index s set nest ty i c t n q k at kind o g h u r d)
 
   -- of a kind that opens, by the kind that it is read as
-  module _ (length ty i k : ℕ) (type : ty ≡ memberAt b p .type) (named : i ≡ memberAt b p .id) (read : 0 < k → k ≡ readAs (typeNo (typesBy b index) (memberAt b p .type))) where
+  module _ (ty i k : ℕ) (type : ty ≡ memberAt b p .type) (named : i ≡ memberAt b p .id) (read : 0 < k → k ≡ readAs (typeNo (typesBy b index) (memberAt b p .type))) (o : Bool) (g : o ≡ opens k) (h : o ≡ true) where
     abbrev its : BookType
     its = typeNo (typesBy b index) (m .type)
 
-    pub found-opened : (o : Bool) → o ≡ opens k → o ≡ true → (u : List ℕ) (r : Out) → Done (runOf nest s ty i 1 0 c (room t n)) n t u r → Done (foundValue (typesBy b index) s set nest m length c (room t n)) n t u r
-    unfolding foundValue foundBy valueOf
-    found-opened o g h u r d =
+    own-kind : its .kind ≡ k
+    own-kind =
+        let y : opens k ≡ true = sym g ∙ h in
+        let a : k ≡ readAs its = read (opened-some k y) in
+        unmasked its (ap opens (sym a) ∙ y) ∙ sym a
+
+    opened-value : valueOf (typesBy b index) s set nest (m .type) (m .id) c (room t n) ≡ runOf nest s ty i 1 0 c (room t n)
+    unfolding valueOf
+    opened-value =
         let y : opens k ≡ true = sym g ∙ h in
         let w = opened-kind k y in
-        let a : k ≡ readAs its = read (opened-some k y) in
-        let e : its .kind ≡ k = unmasked its (ap opens (sym a) ∙ y) ∙ sym a in
-        let l : byLength (set .version) (set .mode) (typesBy b index) its ≡ false = no-length (typesBy b index) (set .version) (set .mode) its (ap (λ (x : ℕ). eqb x 25) e ∙ w .2) in
-        let v : valueOf (typesBy b index) s set nest (m .type) (m .id) c (room t n) ≡ nest s (m .type) (m .id) c (room t n) = rw (ap (λ (x : ℕ). eqb x 0) e ∙ w .0, ap unsupportedMember e ∙ w .1, ap opens e ∙ y) in
-        is-same (ap (λ (z : Bool). foundBy (typesBy b index) s set nest z m length c (room t n)) l ∙ v ∙ rw (← type, ← named) (sym (run-single nest s ty i c (room t n)))) d
+        let v : valueOf (typesBy b index) s set nest (m .type) (m .id) c (room t n) ≡ nest s (m .type) (m .id) c (room t n) = rw (ap (λ (x : ℕ). eqb x 0) own-kind ∙ w .0, ap unsupportedMember own-kind ∙ w .1, ap opens own-kind ∙ y) in
+        v ∙ rw (← type, ← named) (sym (run-single nest s ty i c (room t n)))
+
+    pub found-opened : (length : ℕ) (u : List ℕ) (r : Out) → Done (runOf nest s ty i 1 0 c (room t n)) n t u r → Done (foundValue (typesBy b index) s set nest m length c (room t n)) n t u r
+    unfolding foundValue foundBy
+    found-opened length u r d =
+        let w = opened-kind k (sym g ∙ h) in
+        let l : byLength (set .version) (set .mode) (typesBy b index) its ≡ false = no-length (typesBy b index) (set .version) (set .mode) its (ap (λ (x : ℕ). eqb x 25) own-kind ∙ w .2) in
+        is-same (ap (λ (z : Bool). foundBy (typesBy b index) s set nest z m length c (room t n)) l ∙ opened-value) d
+
+    pub fmember-opened : (f : Bool) → f ≡ optional (memberAt b p) → not f ≡ true → (u : List ℕ) (r : Out) → Done (runOf nest s ty i 1 0 c (room t n)) n t u r → Done (fmemberOf (typesBy b index) s set nest m c (room t n)) n t u r
+    unfolding fmemberOf fmemberBy
+    fmember-opened f is never u r d = is-same (rw (sym is ∙ not-true f never) opened-value) d
 
   -- a member by its lookup
   module _ (i : ℕ) (named : i ≡ memberAt b p .id) (g : Located) (is : g ≡ locate s set i c) where
@@ -204,11 +219,6 @@ module _ (b index s : List ℕ) (set : Settings) (nest : Nest) (p : ℕ) (c : Cu
     pub fmember-optional : o ≡ true → (u : List ℕ) (r : Out) → Done asked-for n t u r → Done final n t u r
     unfolding fmemberBy
     fmember-optional e u r d = is-same (by true e) d
-
-    pub fmember-opens : o ≡ false → (ty i q k : ℕ) → ty ≡ memberAt b p .type → i ≡ memberAt b p .id → PlaceOf b index ty q → k ≡ typeAt b q .kind → (y : Bool) → y ≡ opens k → y ≡ true
-        → (u : List ℕ) (r : Out) → Done (runOf nest s ty i 1 0 c (room t n)) n t u r → Done final n t u r
-    unfolding fmemberBy
-    fmember-opens e ty i q k j l at kind y g h u r d = is-same (by false e ∙ rw (← j, ← l)) (value-opens b index s set nest ty i c t n q k at kind y g h u r d)
 
     pub fmember-value : o ≡ false → (ty i : ℕ) → ty ≡ memberAt b p .type → i ≡ memberAt b p .id → (u : List ℕ) (r : Out) → Done (valueOf (typesBy b index) s set nest ty i c (room t n)) n t u r → Done final n t u r
     unfolding fmemberBy

@@ -16,11 +16,12 @@ use Rattle.wire.specs.declared.settings.Version.the-variants.{Xcdr1, Xcdr2}
 use Rattle.table.specs.declared.out.Refusal.{Refusal}
 use Rattle.table.specs.declared.out.Out.{Out}
 use Rattle.table.specs.declared.out.Out.the-variants.{Read, Short, Refused}
-use Rattle.table.specs.Rows.{row, width, room, noRoom}
-use Rattle.table.specs.Code.Rows.{putRow}
+use Rattle.table.specs.declared.rows.Row.{Row}
+use Rattle.table.specs.Rows.{row, width, room, noRoom, rowAt}
+use Rattle.table.specs.Code.Rows.{putRow, counting}
 use Rattle.table.specs.Outcome.{Outcome, read, refused, roomFor, closed, prepend, andThen}
 use Rattle.table.specs.Code.Outcome.{Done}
-use Rattle.table.proofs.Filling.{filled-none, full-fits}
+use Rattle.table.proofs.Filling.{filled-none, full-fits, length-putRow}
 use Rattle.table.proofs.Outcomes.{is-read, is-short, is-refused, is-same, was-read, was-short, was-refused, then-read, then-short, then-refused, then-nil, row-full, row-read, row-short, row-refused}
 use Rattle.wire.specs.declared.dheader.Contents.{Contents}
 use Rattle.wire.specs.declared.dheader.Contents.the-variants as contents
@@ -38,7 +39,6 @@ use Rattle.values.specs.Scalar.{enumOf}
 use Rattle.reader.specs.Value.{Nest}
 use Rattle.reader.specs.Union.{membersBy}
 use Rattle.reader.specs.Structure.{fmembersOf, mmembersOf}
-use Rattle.reader.specs.Code.Ending.{standingAt}
 use Rattle.reader.specs.Nested.{isMutable, isStructure, isDelimited, beginningOf, endingBy, endingIf, hasEnding, endingOf, membersIf, membersOf, contentsOf, delimitedOf, bodyBy, bodyOf, openedIf, tooDeepIf, nestedAt}
 
 -- two tests
@@ -75,16 +75,11 @@ module _ (s : List ℕ) (set : Settings) (end : ℕ) (kept : keepsEnds set ≡ t
       go Xcdr1 m e = absurd (let z : _≡_ {A = ℕ} 0 1 = cc in omega arith)
       go Xcdr2 m e = refl
 
-  stands-there : {o : Outcome} {n : ℕ} {t u : List ℕ} {r v : Out} → Done o n t u r → v ≡ standingAt end r → Done (andThen o (λ e used. endingBy s set (set .version) end e)) n t u v
-  unfolding andThen prepend standingAt
-  stands-there {o} {n} {t} {u} {r} {v} h f = go r refl
-    where
-      go : (x : Out) → r ≡ x → Done (andThen o (λ e used. endingBy s set (set .version) end e)) n t u v
-      go (Read c m) q =
-          let w = was-read h q in
-          rw (f ∙ ap (standingAt end) q) (is-read (then-read _ (w .is) ∙ ap (prepend (w .new)) (at-end c) ∙ ap (read (cursorAt end (c .origin))) (append-nil (w .new))) (w .count) (w .filled))
-      go (Short x) q = let w = was-short h q in rw (f ∙ ap (standingAt end) q) (is-short (then-short _ (w .is)) (w .filled))
-      go (Refused k) q = let w = was-refused h q in rw (f ∙ ap (standingAt end) q) (is-refused (then-refused _ (w .is)) (w .filled))
+  stands-there : {o : Outcome} {n : ℕ} {t u : List ℕ} {r : Out} → Done o n t u r → (c : Cursor) (m : ℕ) → r ≡ Read c m → (d : Cursor) → d ≡ cursorAt end (c .origin) → Done (andThen o (λ e used. endingBy s set (set .version) end e)) n t u (Read d m)
+  unfolding andThen prepend
+  stands-there h c m q d made =
+      let w = was-read h q in
+      rw made (is-read (then-read _ (w .is) ∙ ap (prepend (w .new)) (at-end c) ∙ ap (read (cursorAt end (c .origin))) (append-nil (w .new))) (w .count) (w .filled))
 
 -- what is not both
 pub no-mutable-structure : (b : List ℕ) (at k : ℕ) (y : Bool) → k ≡ typeAt b at .kind → y ≡ isMutable (typeAt b at) → (eqb k 22 && y) ≡ false → both (isStructure (typeAt b at)) (isMutable (typeAt b at)) ≡ false
@@ -138,17 +133,23 @@ module _ (types : List BookType) (s : List ℕ) (set : Settings) (nest : Nest) (
           is-same (between ∙ rw (mutable-ends set (typeAt b at) f g, f, g)) h
 
       -- any other ends by its DHEADER, or where its members end
-      module _ (others : (eqb k 22 && y) ≡ false) (u : List ℕ) (r : Out) (h : Done (membersOf types w set nest (typeAt b at) d (room t n)) n t u r) (z o : Bool) (keeps : z ≡ keepsEnds set) (delimited : o ≡ isDelimited (typeAt b at)) where
-        pub body-there : (z && o) ≡ true → (v : Out) → v ≡ standingAt end r → Done body n t u v
-        unfolding endingOf endingIf hasEnding
-        body-there e v f =
-            let l : keepsEnds set ≡ true = sym keeps ∙ and-first z o e in
-            let m : isDelimited (typeAt b at) ≡ true = sym delimited ∙ and-second z o e in
-            is-same (between ∙ rw (l, m)) (stands-there w set end l h f)
+      module _ (others : (eqb k 22 && y) ≡ false) (u : List ℕ) (r : Out) (h : Done (membersOf types w set nest (typeAt b at) d (room t n)) n t u r) where
+        pub body-fell : (x : Shortage) → r ≡ Short x → Done body n t u (Short x)
+        body-fell x f = let v = was-short h f in is-short (between ∙ then-short _ (v .is)) (v .filled)
 
-        pub body-rest : (z && o) ≡ false → Done body n t u r
+        pub body-refused : (x : Refusal) → r ≡ Refused x → Done body n t u (Refused x)
+        body-refused x f = let v = was-refused h f in is-refused (between ∙ then-refused _ (v .is)) (v .filled)
+
+        pub body-there : (e : Cursor) (m : ℕ) → r ≡ Read e m → (z o : Bool) → z ≡ keepsEnds set → o ≡ isDelimited (typeAt b at) → (z && o) ≡ true → (x : Cursor) → x ≡ cursorAt end (e .origin) → Done body n t u (Read x m)
         unfolding endingOf endingIf hasEnding
-        body-rest e = is-same (between ∙ rw (no-ending z o keeps delimited e) (then-nil _)) h
+        body-there e m f z o keeps delimited g x made =
+            let l : keepsEnds set ≡ true = sym keeps ∙ and-first z o g in
+            let i : isDelimited (typeAt b at) ≡ true = sym delimited ∙ and-second z o g in
+            is-same (between ∙ rw (l, i)) (stands-there w set end l h e m f x made)
+
+        pub body-rest : (e : Cursor) (m : ℕ) → r ≡ Read e m → (z o : Bool) → z ≡ keepsEnds set → o ≡ isDelimited (typeAt b at) → (z && o) ≡ false → Done body n t u (Read e m)
+        unfolding endingOf endingIf hasEnding
+        body-rest e m f z o keeps delimited g = is-same (between ∙ rw (no-ending z o keeps delimited g) (then-nil _)) (rw f at h)
           where
             no-ending : (x p : Bool) → x ≡ keepsEnds set → p ≡ isDelimited (typeAt b at) → (x && p) ≡ false → pick (keepsEnds set) (isDelimited (typeAt b at)) (both (isMutable (typeAt b at)) (isStructure (typeAt b at))) ≡ false
             no-ending true p i j q = rw (← i, ← j) q
@@ -170,13 +171,11 @@ module _ (types : List BookType) (s : List ℕ) (set : Settings) (nest : Nest) (
   unfolding membersOf membersIf isStructure
   members-union e y f h = is-same (rw (ne-eqb (typeAt b at .kind) 22 (λ g. e (kind ∙ g)), ← f)) h
 
--- the kind is the same when it is read again
-pub stored-again : (k j y : ℕ) {x : ℕ} → k ≡ x → j ≡ x → y ≡ storedOf j → y ≡ storedOf k
-stored-again k j y e f h = h ∙ ap storedOf (f ∙ sym e)
-
--- a row's place is in the table after the rows beneath it too
-pub place-kept : (t u : List ℕ) (n : ℕ) (o : Outcome) (r : Out) (f : Bool) → f ≡ noRoom t n → f ≡ false → Done o (n + 1) t u r → width * n + width ≤ length u
-place-kept t u n o r f full fits h = omega (arith, full-fits t n f full fits, h .table .long)
+-- a row that was written has its place after the rows beneath it too
+pub place-kept : (t u v : List ℕ) (n : ℕ) (x : Row) (o : Outcome) (r : Out) (f : Bool) → f ≡ noRoom t n → f ≡ false → u ≡ putRow t n x → Done o (n + 1) u v r → width * n + width ≤ length v
+place-kept t u v n x o r f full fits put h =
+    let l : length u ≡ length t = ap length put ∙ length-putRow t n x (full-fits t n f full fits) in
+    omega (arith, full-fits t n f full fits, l, h .table .long)
 
 -- opening: the kind, the depth, the room, then the body and the row
 module _ {b index : List ℕ} {ty p k : ℕ} {o : Bool} (at : PlaceOf b index ty p) (kind : k ≡ typeAt b p .kind) (is : o ≡ opens k) (s : List ℕ) (set : Settings) (id : ℕ) (c : Cursor) (t : List ℕ) (n D : ℕ) where
@@ -238,17 +237,18 @@ module _ {b index : List ℕ} {ty p k : ℕ} {o : Bool} (at : PlaceOf b index ty
       pub nested-full : f ≡ true → Done nested n t t (Refused NoRoom)
       nested-full = row-full k id ty (c .pos) beneath t n f full (is-opened deep)
 
-      module _ (fits : f ≡ false) {d : Cursor} (made : d ≡ c) {u : List ℕ} {r : Out} (given : Done (bodyOf types s set (nestedAt types set (D - 1)) (typeAt b p) d (room t (n + 1))) (n + 1) t u r) where
-        h : Done (beneath (room t (n + 1))) (n + 1) t u r
+      module _ (fits : f ≡ false) {x : ℕ} (stored : x ≡ storedOf k) {w : List ℕ} (given-row : w ≡ putRow t n (row x id ty 0 (c .pos))) {d : Cursor} (made : d ≡ c) {u : List ℕ} {r : Out} (given : Done (bodyOf types s set (nestedAt types set (D - 1)) (typeAt b p) d (room w (n + 1))) (n + 1) w u r) where
+        put : w ≡ putRow t n (row k id ty 0 (c .pos))
+        put = given-row ∙ ap (λ (y : ℕ). putRow t n (row y id ty 0 (c .pos))) (stored ∙ opened-stored k (sym is ∙ opened))
+
+        h : Done (beneath (room w (n + 1))) (n + 1) w u r
         h = rw made at given
 
-        pub nested-read : (e : Cursor) (m : ℕ) (v : List ℕ) → r ≡ Read e m → {x : ℕ} → x ≡ storedOf k → v ≡ putRow u n (row x id ty (m - n - 1) (c .pos)) → Done nested n t v (Read e m)
-        nested-read e m v q l p =
-            let z : v ≡ putRow u n (row k id ty (m - n - 1) (c .pos)) = p ∙ ap (λ (y : ℕ). putRow u n (row y id ty (m - n - 1) (c .pos))) (l ∙ opened-stored k (sym is ∙ opened)) in
-            row-read k id ty (c .pos) beneath t n f full (is-opened deep) fits u r h e m v q z
+        pub nested-read : (e : Cursor) (m : ℕ) (v : List ℕ) → r ≡ Read e m → v ≡ putRow u n (counting (rowAt u n) (m - n - 1)) → Done nested n t v (Read e m)
+        nested-read = row-read k id ty (c .pos) beneath t n f full (is-opened deep) fits w put u r h
 
-        pub nested-short : (x : Shortage) → r ≡ Short x → Done nested n t u (Short x)
-        nested-short = row-short k id ty (c .pos) beneath t n f full (is-opened deep) fits u r h
+        pub nested-short : (y : Shortage) → r ≡ Short y → Done nested n t u (Short y)
+        nested-short = row-short k id ty (c .pos) beneath t n f full (is-opened deep) fits w put u r h
 
-        pub nested-refused : (x : Refusal) → r ≡ Refused x → Done nested n t u (Refused x)
-        nested-refused = row-refused k id ty (c .pos) beneath t n f full (is-opened deep) fits u r h
+        pub nested-refused : (y : Refusal) → r ≡ Refused y → Done nested n t u (Refused y)
+        nested-refused = row-refused k id ty (c .pos) beneath t n f full (is-opened deep) fits w put u r h

@@ -4,11 +4,13 @@ use Prim.Native.Nat.{ℕ, _+_, _^_, _≤_, _<_}
 use mathlib.Core.Path.{_≡_, refl, sym, ap, _∙_}
 use mathlib.Core.Bool.{Bool, true, false, not}
 use mathlib.Core.List.{List, [], _∷_}
+use mathlib.Core.Logic.{_⊎_, inl, inr}
 use native.Mathlib.Omega.{arith}
 use mir.Syntax.{w64}
 use mir.Val.{Fits}
 use lib.ListN.{length}
 use lib.Dec.{T, eqb, leb, leb→le, eqb→eq}
+use borrow.Author.Tests.{not-true}
 use Rattle.ground.specs.Choice.{among, both, _‥_, within}
 use Rattle.ground.proofs.Tests.{both-left, both-right}
 use Rattle.wire.specs.declared.settings.Version.{Version}
@@ -20,7 +22,8 @@ use Rattle.wire.specs.declared.cursor.Cursor.{Cursor}
 use Rattle.wire.specs.declared.settings.Settings.{Settings}
 use Rattle.kinds.specs.Kinds.{unsupportedMember, opens}
 use Rattle.book.specs.Types.{BookType, Member, optional, typeNo}
-use Rattle.book.specs.Places.{memberAt, typeAt, typesBy, PlaceOf}
+use Rattle.book.specs.declared.member.Head.{Head}
+use Rattle.book.specs.Places.{memberAt, typeAt, typesBy, PlaceOf, HeadOf}
 use Rattle.lookup.specs.declared.ahead.Ahead.{Ahead}
 use Rattle.lookup.specs.declared.ahead.Hint.{Hint}
 use Rattle.lookup.specs.Code.Ahead.{HeaderAhead}
@@ -32,7 +35,7 @@ use Rattle.table.specs.Code.Outcome.{Done}
 use Rattle.wire.specs.Place.{cursorAt}
 use Rattle.values.specs.Scalar.{scalarOf}
 use Rattle.values.specs.Code.Quick.{isTaken, Quickly}
-use Rattle.values.proofs.Quickly.{quick-not, quick-as, quick-next, quick-done, quick-none}
+use Rattle.values.proofs.Quickly.{quick-as, quick-next, quick-done, quick-none}
 use Rattle.reader.specs.Value.{Nest, isSequence, primitiveElement, readAs, valueOf}
 use Rattle.reader.specs.Member.{byLength, foundBy, foundValue, fmemberBy, fmemberOf}
 
@@ -117,9 +120,6 @@ member-kind b index p ty k e is h = is h ∙ ap (λ (x : ℕ). readAs (typeNo (t
 
 -- what the quick way took is the member's
 module _ (b index s : List ℕ) (set : Settings) (p : ℕ) (c : Cursor) (t : List ℕ) (n : ℕ) where
-  pub plain-none : (nest : Nest) → Quickly (fmemberOf (typesBy b index) s set nest (memberAt b p) c (room t n)) 1 n (c .origin) t t 0
-  plain-none nest = quick-not _ 1 n (c .origin) t
-
   module _ (ty k i : ℕ) (type : ty ≡ memberAt b p .type) (read : 0 < k → k ≡ readAs (typeNo (typesBy b index) ty)) (named : i ≡ memberAt b p .id)
       (u : List ℕ) (r : ℕ) (d : Quickly (scalarOf s set k i c (room t n)) 1 n (c .origin) t u r) (takes : 0 < r → isTaken k ≡ true) where
     read-as : isTaken k ≡ true → k ≡ readAs (typeNo (typesBy b index) ty)
@@ -128,7 +128,7 @@ module _ (b index s : List ℕ) (set : Settings) (p : ℕ) (c : Cursor) (t : Lis
     value-is : isTaken k ≡ true → (nest : Nest) → valueOf (typesBy b index) s set nest (memberAt b p .type) (memberAt b p .id) c (room t n) ≡ scalarOf s set k i c (room t n)
     value-is y nest = rw (← type, ← named) (taken-value (typesBy b index) s set nest ty i c (room t n) k y (read-as y))
 
-    pub plain-taken : (o : Bool) → o ≡ optional (memberAt b p) → o ≡ false → (nest : Nest) → Quickly (fmemberOf (typesBy b index) s set nest (memberAt b p) c (room t n)) 1 n (c .origin) t u r
+    plain-taken : (o : Bool) → o ≡ optional (memberAt b p) → o ≡ false → (nest : Nest) → Quickly (fmemberOf (typesBy b index) s set nest (memberAt b p) c (room t n)) 1 n (c .origin) t u r
     unfolding fmemberOf fmemberBy
     plain-taken o is never nest = quick-as _ _ 1 n (c .origin) t u r d (λ h. (member-is (takes h)))
       where
@@ -142,18 +142,31 @@ module _ (b index s : List ℕ) (set : Settings) (p : ℕ) (c : Cursor) (t : Lis
         found-is : isTaken k ≡ true → foundValue (typesBy b index) s set nest (memberAt b p) length c (room t n) ≡ scalarOf s set k i c (room t n)
         found-is y = rw (← type, taken-other (typesBy b index) s set nest ty i c (room t n) k y (read-as y) (set .version) (set .mode)) (rw type (value-is y nest))
 
--- .. or it left all as it was
-module _ (types : List BookType) (s : List ℕ) (set : Settings) (nest : Nest) (m : Member) (c : Cursor) (t : List ℕ) (n : ℕ) (u : List ℕ) (r : ℕ) (q : (f : Nest) → Quickly (fmemberOf types s set f m c (room t n)) 1 n (c .origin) t u r) where
-  pub plain-quick : 0 < r → (d : Cursor) → d ≡ cursorAt r (c .origin) → Done (fmemberOf types s set nest m c (room t n)) n t u (Read d (n + 1))
-  plain-quick h d e = rw e (quick-done 1 r h (q nest))
+-- .. so a member that is not optional was taken, or left as it was
+module _ (b index s : List ℕ) (set : Settings) (p : ℕ) (c : Cursor) (t : List ℕ) (n : ℕ) {m : Head} (head : HeadOf (memberAt b p) m) (never : not (m .optional) ≡ true) {k : ℕ} (read-as : 0 < k → k ≡ readAs (typeNo (typesBy b index) (m .ty)))
+    (u : List ℕ) (r : ℕ) (d : Quickly (scalarOf s set k (m .id) c (room t n)) 1 n (c .origin) t u r × (0 < r → isTaken k ≡ true)) where
+  quickly : (nest : Nest) → Quickly (fmemberOf (typesBy b index) s set nest (memberAt b p) c (room t n)) 1 n (c .origin) t u r
+  quickly = plain-taken b index s set p c t n (m .ty) k (m .id) (head .type) read-as (head .id) u r (d .0) (d .1) (m .optional) (head .option) (not-true (m .optional) never)
 
-  pub plain-left : r ≤ 0 → (v : List ℕ) (x : Out) → Done (fmemberOf types s set nest m c (room u n)) n u v x → Done (fmemberOf types s set nest m c (room t n)) n t v x
-  plain-left h v x d = rw (quick-none _ 1 n (c .origin) t u r h (q nest)) at d
+  pub fmember-quick : (nest : Nest) → 0 < r → {e : Cursor} → e ≡ cursorAt r (c .origin) → Done (fmemberOf (typesBy b index) s set nest (memberAt b p) c (room t n)) n t u (Read e (n + 1))
+  fmember-quick nest h e = rw e (quick-done 1 r h (quickly nest))
 
--- a row that was written has its place
-pub plain-next : (types : List BookType) (s : List ℕ) (set : Settings) (m : Member) (c : Cursor) (t : List ℕ) (n : ℕ) (u : List ℕ) (r : ℕ)
-    → ((nest : Nest) → Quickly (fmemberOf types s set nest m c (room t n)) 1 n (c .origin) t u r) → 0 < r → length t < 2 ^ 64 → Fits w64 (n + 1)
-plain-next types s set m c t n u r q h l = quick-next _ _ _ _ _ r h (q (λ w ty id d k. read d [])) l
+  -- a row that was written has its place
+  pub fmember-next : 0 < r → length t < 2 ^ 64 → Fits w64 (n + 1)
+  fmember-next h l = quick-next _ _ _ _ _ r h (quickly (λ w ty id e k. read e [])) l
+
+  pub fmember-left : (nest : Nest) → r ≤ 0 → {v : List ℕ} {x : Out} → Done (fmemberOf (typesBy b index) s set nest (memberAt b p) c (room u n)) n u v x → Done (fmemberOf (typesBy b index) s set nest (memberAt b p) c (room t n)) n t v x
+  fmember-left nest h l = rw (quick-none _ 1 n (c .origin) t u r h (quickly nest)) at l
+
+-- .. by the way that was come
+pub by-three : {A B C G : Type 0} → A ⊎ (B ⊎ C) → (A → G) → (B → G) → (C → G) → G
+by-three (inl x) f g h = f x
+by-three (inr (inl x)) f g h = g x
+by-three (inr (inr x)) f g h = h x
+
+-- from a table that is the same
+pub fmember-from : (b index s : List ℕ) (set : Settings) (nest : Nest) (p : ℕ) (c : Cursor) (n : ℕ) {t u v : List ℕ} {x : Out} → t ≡ u → Done (fmemberOf (typesBy b index) s set nest (memberAt b p) c (room t n)) n t v x → Done (fmemberOf (typesBy b index) s set nest (memberAt b p) c (room u n)) n u v x
+fmember-from b index s set nest p c n e d = rw e at d
 
 -- the header where the hint says is asked for the member's own id
 pub ahead-of : (b s : List ℕ) (set : Settings) (p : ℕ) (h : Hint) (origin : ℕ) (r : Ahead) (i : ℕ) → i ≡ memberAt b p .id → HeaderAhead s set i h origin r → HeaderAhead s set (memberAt b p .id) h origin r

@@ -5,16 +5,15 @@ use Rattle.values.proofs.Scalars.{row-next}
 use Rattle.reader.proofs.RunSteps.{run-start, run-end}
 use Rattle.reader.proofs.ValueSteps.{elements-unsupported, elements-full, elements-opened, elements-plain, value-none, value-unsupported, value-nested, value-list, value-scalar, value-taken, value-left, list-short, list-past, list-uncounted, list-there, list-rest}
 use Rattle.reader.proofs.ListSteps.{list-taken, list-left}
-use Rattle.reader.proofs.MemberSteps.{found-length, found-value, found-opens, mmember-short, mmember-absent, mmember-read, mmember-fell, mmember-refused, optional-looked, optional-short, optional-bad, optional-absent, optional-present, fmember-optional, fmember-opens, fmember-value}
-use Rattle.reader.proofs.PlainSteps.{plain-quick, plain-left}
+use Rattle.reader.proofs.MemberSteps.{found-length, found-value, found-opens, mmember-short, mmember-absent, mmember-read, mmember-fell, mmember-refused, optional-looked, optional-short, optional-bad, optional-absent, optional-present, fmember-optional, fmember-value}
 use Rattle.reader.proofs.StructureSteps.{fmembers-start, fmembers-end}
 use Rattle.reader.proofs.LookedSteps.{mstruct-short, mstruct-members, mstruct-hint}
 use Rattle.reader.proofs.UnionSteps.{chosen-absent, chosen-unfit, chosen-none, chosen-looked, chosen-plain, union-empty, union-short, union-refused, union-read, discriminator-looked, discriminator-plain}
-use Rattle.reader.proofs.NestedSteps.{body-enum, body-short, body-past, body-mstruct, body-there, body-rest, members-structure, members-union}
+use Rattle.reader.proofs.NestedSteps.{body-enum, body-short, body-past, body-mstruct, body-fell, body-refused, body-there, body-rest, members-structure, members-union}
 
 pub ruleset as-nested-laws = (run-start, run-end)
 
-pub ruleset body-laws = (body-enum, body-short, body-past, body-mstruct, body-there, body-rest, mstruct-short, mstruct-members, mstruct-hint)
+pub ruleset body-laws = (body-enum, body-short, body-past, body-mstruct, body-fell, body-refused, body-there, body-rest, mstruct-short, mstruct-members, mstruct-hint)
 
 pub ruleset inner-laws = (members-structure, members-union)
 
@@ -28,9 +27,11 @@ pub ruleset first-laws = (discriminator-looked, discriminator-plain)
 
 pub ruleset chosen-laws = (fmember-optional, fmember-value, chosen-absent, chosen-unfit, chosen-none, chosen-looked, chosen-plain)
 
-pub ruleset fmember-laws = (plain-quick, plain-left)
+pub ruleset single-laws = (tt)
 
-pub ruleset rest-laws = (fmember-optional, fmember-opens, fmember-value, list-taken, list-left)
+pub ruleset fmember-laws = (tt)
+
+pub ruleset rest-laws = (fmember-optional, fmember-value, list-taken, list-left)
 
 pub ruleset option-laws = (optional-looked, optional-short, optional-bad, optional-absent, optional-present)
 

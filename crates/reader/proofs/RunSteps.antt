@@ -1,6 +1,7 @@
 -- Laws of a run of opened values: what each turn shows, and that it is what the rules say of a member's value and of a list's. Assumes nothing.
 use Prim.Native.Nat.{ℕ, zero, suc, _+_, _-_, _≤_, _<_}
-use mathlib.Core.Path.{_≡_, refl, sym, ap}
+use mathlib.Core.Path.{_≡_, refl, sym, ap, _∙_}
+use mathlib.Core.Bool.{Bool, false}
 use mathlib.Core.List.{List, []}
 use native.Mathlib.Nat.{sub-zero}
 use native.Mathlib.Omega.{arith}
@@ -15,10 +16,12 @@ use Rattle.book.specs.Types.{BookType}
 use Rattle.table.specs.declared.out.Refusal.{Refusal}
 use Rattle.table.specs.declared.out.Out.{Out}
 use Rattle.table.specs.declared.out.Out.the-variants.{Read, Short, Refused}
-use Rattle.table.specs.Rows.{room}
+use Rattle.table.specs.declared.rows.Row.{Row}
+use Rattle.table.specs.Rows.{room, noRoom}
+use Rattle.table.specs.Code.Rows.{putRow}
 use Rattle.table.specs.Outcome.{Outcome, read, short, refused, prepend, andThen}
 use Rattle.table.specs.Code.Outcome.{Done}
-use Rattle.table.proofs.Filling.{filled-none}
+use Rattle.table.proofs.Filling.{filled-none, full-fits, length-putRow}
 use Rattle.table.proofs.Outcomes.{is-same, then-nil, Sofar, sofar-start, sofar-read, turn-read, turn-short, turn-refused}
 use Rattle.reader.specs.Value.{Nest, openedFrom}
 use Rattle.reader.specs.Nested.{nestedAt, reading}
@@ -56,7 +59,10 @@ module _ {nest : Nest} {s : List ℕ} {ty count : ℕ} {whole : Outcome} {n : �
   pub run-end : count ≤ i → {d : Cursor} → d ≡ c → Done whole n a u (Read d m)
   run-end h made = rw made (sofar-read (inv .so) (none nest s ty count id i c (room u m) h) (filled-none u m))
 
-  -- the table is as long as it was
+  -- the table is as long as it was, with a row of its own and what stands beneath it too
+  pub run-kept : (x : Row) {w v : List ℕ} {o : Outcome} {r : Out} {f : Bool} → f ≡ noRoom u m → f ≡ false → w ≡ putRow u m x → Done o (m + 1) w v r → length v ≡ length a
+  run-kept x full fits put h = h .table .long ∙ ap length put ∙ length-putRow u m x (full-fits u m _ full fits) ∙ inv .so .filled .long
+
   pub run-long : {k : ℕ} → length a < k → length u < k
   run-long h = rw (inv .so .filled .long) h
 

@@ -28,6 +28,7 @@ use table::out::Out;
 use table::out::Refusal;
 use table::rows::Row;
 use table::rows::is_full;
+use table::rows::put_beneath;
 use table::rows::put_row;
 use table::rows::row_at;
 use values::scalar::enum_type;
@@ -66,8 +67,7 @@ pub fn top_level_type(
 }
 
 // Opens so many structures, enums or unions of one type, one after the other: a member's alone, or a list's. Of each the kind, the depth
-// and the room are asked in this order, and its row is written last, when all rows beneath are counted. For that the kind is read again: kept until then, it
-// costs more.
+// and the room are asked in this order. Its row is written first, so that nothing of it has to be kept, and counts the rows beneath when they are there.
 pub fn as_nested(
     book: &[u8],
     index: &[u32],
@@ -100,6 +100,14 @@ pub fn as_nested(
         if is_full(t, m) {
             return Out::Refused(Refusal::NoRoom);
         }
+        let row = Row {
+            kind: kinds::stored_of(kind) as u64,
+            id: number,
+            a: ty as u64,
+            b: 0,
+            place: pos as u64,
+        };
+        put_row(t, m, row);
         match body(
             book,
             index,
@@ -107,6 +115,7 @@ pub fn as_nested(
             set,
             t,
             at,
+            kind,
             Cursor::new(pos, origin),
             m + 1,
             depth - 1,
@@ -116,14 +125,7 @@ pub fn as_nested(
             Out::Read(e, k) => {
                 let rows = k - m;
                 let beneath = rows - 1;
-                let row = Row {
-                    kind: kinds::stored_of(types::kind_at(book, at)) as u64,
-                    id: number,
-                    a: ty as u64,
-                    b: beneath as u64,
-                    place: pos as u64,
-                };
-                put_row(t, m, row);
+                put_beneath(t, m, beneath as u64);
                 pos = e.pos;
                 origin = e.origin;
                 m = k;
@@ -135,6 +137,24 @@ pub fn as_nested(
     Out::Read(Cursor::new(pos, origin), m)
 }
 
+// One value alone. A slice is handed over by its address, and whoever calls `as_nested` keeps its slices in memory for that: so the loops of members call this.
+pub fn single(
+    book: &[u8],
+    index: &[u32],
+    s: &[u8],
+    set: Settings,
+    t: &mut [u64],
+    ty: usize,
+    id: u64,
+    c: Cursor,
+    n: usize,
+    depth: usize,
+) -> Out
+    ensures { λ r. ⌜ Done (runIn (now (book .entry)) (now (index .entry)) (now (s .entry)) set depth ty id 1 c (room (now (t .entry)) n)) n (now (t .entry)) (now (t .exit)) r ⌝ }
+{
+    as_nested(book, index, s, set, t, ty, id, 1, c, n, depth)
+}
+
 // What stands beneath the row of a value whose type is at `at`: an enum's number; else what begins it, its members, and what ends it.
 pub fn body(
     book: &[u8],
@@ -143,13 +163,14 @@ pub fn body(
     set: Settings,
     t: &mut [u64],
     at: usize,
+    kind: u8,
     c: Cursor,
     n: usize,
     depth: usize,
 ) -> Out
+    requires { ⌜ kind ≡ typeAt (now book) at .kind ⌝ }
     ensures { λ r. ⌜ Done (bodyIn (now (book .entry)) (now (index .entry)) (now (s .entry)) set depth (typeAt (now (book .entry)) at) c (room (now (t .entry)) n)) n (now (t .entry)) (now (t .exit)) r ⌝ }
 {
-    let kind = types::kind_at(book, at);
     if kind == ENUM {
         return enum_type(s, set, t, types::base_at(book, at), c, n);
     }
@@ -166,12 +187,16 @@ pub fn body(
                     }
                 };
             }
-            let kept = set.keeps_ends() & types::is_delimited(book, at);
-            let out = inner(book, index, part, set, t, at, d, n, depth);
-            if kept {
-                return types::stand_at(end, out);
+            match inner(book, index, part, set, t, at, d, n, depth) {
+                Out::Short(x) => Out::Short(x),
+                Out::Refused(why) => Out::Refused(why),
+                Out::Read(e, k) => {
+                    if set.keeps_ends() & types::is_delimited(book, at) {
+                        return Out::Read(Cursor::new(end, e.origin), k);
+                    }
+                    Out::Read(e, k)
+                }
             }
-            out
         }
     }
 }
@@ -198,8 +223,8 @@ pub fn inner(
     union::parts(book, index, s, set, t, at, mutable, c, n, depth)
 }
 
-// A member of a Final or Appendable type that is no number, boolean or text which stands there. A value that is opened is opened from here, which `value` would
-// do too, and a list of numbers is taken from here: the compiler takes this into the structure's loop.
+// A member of a Final or Appendable type that is no number, boolean or text which stands there, and is not opened. A list of numbers is taken from here, which
+// the compiler takes into the structure's loop.
 pub fn rest(
     book: &[u8],
     index: &[u32],
@@ -219,10 +244,6 @@ pub fn rest(
     }
     let ty = m.ty;
     let i = m.id as u64;
-    let at = place(book, index, ty);
-    if kinds::opens(types::kind_at(book, at)) {
-        return as_nested(book, index, s, set, t, ty, i, 1, c, n, depth);
-    }
     let past = plain::list(book, index, s, set, t, ty, i, c, n);
     if 0 < past {
         let rows = row_at(t, n).b as usize;

@@ -28,7 +28,7 @@ use wire::number::from_bytes;
 use wire::settings::Settings;
 
 // The kind that type number `ty` is read as, if its own 14 bytes are there; or 0, which is not taken.
-fn kind_of(book: &[u8], index: &[u32], ty: usize) -> u8
+pub fn kind_of(book: &[u8], index: &[u32], ty: usize) -> u8
     ensures { λ r. ⌜ (0 < r → r ≡ readAs (typeNo (typesBy (now (book .entry)) (now (index .entry))) ty)) ⌝ }
 {
     if index.len() <= ty {
@@ -39,31 +39,6 @@ fn kind_of(book: &[u8], index: &[u32], ty: usize) -> u8
         return 0;
     }
     read_as_there(book, at)
-}
-
-// Takes the member at p where it is such, and tells the position after it; or 0, and nothing is done. It opens nothing, so how values
-// are opened makes no difference. That a member's 9 bytes before its labels are there is asked once, and then of none of them.
-pub fn take(
-    book: &[u8],
-    index: &[u32],
-    s: &[u8],
-    set: Settings,
-    t: &mut [u64],
-    p: usize,
-    c: Cursor,
-    n: usize,
-) -> usize
-    ensures { λ r. ⌜ ((nest : Nest) → Quickly (fmemberOf (typesBy (now (book .entry)) (now (index .entry))) (now (s .entry)) set nest (memberAt (now (book .entry)) p) c (room (now (t .entry)) n)) 1 n (c .origin) (now (t .entry)) (now (t .exit)) r) ⌝ }
-{
-    if !is_there(book, p, book::member::LAST) {
-        return 0;
-    }
-    let m = head_there(book, p);
-    if m.optional {
-        return 0;
-    }
-    let kind = kind_of(book, index, m.ty);
-    values::quick::value_at(s, set, t, kind, m.id as u64, c, n)
 }
 
 // Takes a value of type number `ty` where that is a list of numbers which are there whole (no DHEADER begins it), and tells the position after it; or 0, and

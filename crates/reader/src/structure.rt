@@ -111,7 +111,7 @@ pub fn mmembers(
             let c = value_at(version, v, origin);
             h = hint_after(ahead, wanted);
             let size = ahead.length;
-            let own = cut(s, set, v, size);
+            let own = cut(s, set, 0, (v as u64) + size);
             let kind = plain::kind_found(book, index, p);
             let past = found_value_at(own, set, t, kind, wanted as u64, c, m);
             if 0 < past {
@@ -121,8 +121,7 @@ pub fn mmembers(
             }
             if kinds::opens(kind) {
                 let ty = type_index(book, p);
-                let part = cut(s, set, v, size);
-                match as_nested(book, index, part, set, t, ty, wanted as u64, 1, c, m, depth) {
+                match as_nested(book, index, own, set, t, ty, wanted as u64, 1, c, m, depth) {
                     Out::Read(_, k) => {
                         m = k;
                         ms = after(book, ms);
@@ -131,8 +130,8 @@ pub fn mmembers(
                     Out::Refused(k) => return Out::Refused(k),
                 }
             } else {
-                let part = cut(s, set, v, size);
-                match found(book, index, part, set, t, p, size, c, m, depth) {
+                let d = value_at(version, v, origin);
+                match found(book, index, own, set, t, p, size, d, m, depth) {
                     Out::Read(_, k) => {
                         m = k;
                         ms = after(book, ms);

@@ -5,7 +5,7 @@ ghost use Rattle.reader.specs.Value.{isSequence, primitiveElement, readA
 ghost use Rattle.reader.specs.Member.{byLength, elementCount};
 ghost use Rattle.reader.specs.Structure.{absorbs};
 ghost use Rattle.reader.specs.Nested.{isMutable, isDelimited, mayFailUnheard, beginningOf, endingBy};
-ghost use Rattle.reader.specs.Code.Ending.{standingAt, endingAt};
+ghost use Rattle.reader.specs.Code.Ending.{endingAt};
 ghost use Rattle.table.specs.Code.Outcome.{Done};
 ghost use mathlib.Core.List.{List};
 ghost use Prim.Native.Nat.{ℕ, _+_, _<_};
@@ -145,7 +145,10 @@ pub fn is_delimited(book: &[u8], at: usize) -> bool
 fn may_fail_unheard(book: &[u8], set: Settings, at: usize) -> bool
     ensures { λ r. ⌜ r ≡ mayFailUnheard set (typeAt (now (book .entry)) at) ⌝ }
 {
-    !set.keeps_ends() & is_mutable(book, at) & (kind_at(book, at) != STRUCTURE)
+    if set.keeps_ends() {
+        return false;
+    }
+    is_mutable(book, at) & (kind_at(book, at) != STRUCTURE)
 }
 
 // Serialization rules 29 and 30: what begins a structure or a union, and where its members stand. Where a short DHEADER is not heard, they
@@ -179,17 +182,6 @@ pub fn ending(s: &[u8], set: Settings, end: usize, c: Cursor, h: Hint, n: usize)
             Place::Short(x) => Out::Short(x),
         },
         Version::Xcdr2 => Out::Read(Cursor::new(end, c.origin), n),
-    }
-}
-
-// What ends a value that its DHEADER ends: it stands there, wherever its members were.
-pub fn stand_at(end: usize, out: Out) -> Out
-    ensures { λ r. ⌜ r ≡ standingAt end out ⌝ }
-{
-    match out {
-        Out::Read(c, n) => Out::Read(Cursor::new(end, c.origin), n),
-        Out::Short(x) => Out::Short(x),
-        Out::Refused(k) => Out::Refused(k),
     }
 }
 

@@ -6,12 +6,12 @@ use native.Mathlib.Nat.{mul-add, add-zero}
 use native.Mathlib.Numerals.{towards-suc}
 use native.Mathlib.Omega.{arith}
 use lib.ListN.{length, take, drop, set, getD, length-append, length-take, length-drop}
-use lib.Seq.{take-take, drop-drop, take-add, take-append-add, take-at, drop-at, sets-eq, length-take-le, getD-take, getD-drop}
+use lib.Seq.{take-take, drop-drop, take-add, take-append-add, take-at, drop-at, sets-eq, set-getD, getD-set-other, length-take-le, getD-take, getD-drop}
 use mathlib.Core.Bool.{Bool, true, false}
 use borrow.Author.Tests.{le-leb, lt-leb, leb-true, leb-false}
 use Rattle.table.specs.declared.rows.Row.{Row}
 use Rattle.table.specs.Rows.{row, width, wordsOf, words, capacity, room, noRoom, rowAt}
-use Rattle.table.specs.Code.Rows.{putRow, Filled}
+use Rattle.table.specs.Code.Rows.{putRow, counting, Filled}
 
 -- ---- what is asked of a row's form: that each row has so many words. The laws below use no more of it, but for those that write and read single words
 length-wordsOf : (r : Row) → length (wordsOf r) ≡ width
@@ -77,6 +77,10 @@ filled-then {a} {b} {c} {n} {rs} {ss} f g =
           ∙ ap (λ (l : List ℕ). words rs ++ l) (g .rows)
           ∙ sym (words-append rs ss);
     }
+
+-- rows written over what was written from the same place on
+pub filled-over : {a b c : List ℕ} {n : ℕ} {rs ss : List Row} → Filled a b n rs → Filled b c n ss → Filled a c n ss
+filled-over f g = record { long = g .long ∙ f .long; kept = g .kept ∙ f .kept; rows = g .rows }
 
 pub length-putRow : (t : List ℕ) (n : ℕ) (r : Row) → width * n + width ≤ length t → length (putRow t n r) ≡ length t
 unfolding putRow
@@ -155,6 +159,16 @@ module _ (t : List ℕ) (n : ℕ) where
       → row (getD t (width * n) 0) (getD t (width * n + 1) 0) (getD t (width * n + 2) 0) (getD t (width * n + 3) 0) (getD t (width * n + 4) 0) ≡ rowAt t n
   unfolding rowAt noRoom
   row-some h = rw (lt-leb (capacity t) n h)
+
+-- the store of the one word that counts the rows beneath
+pub put-beneath : (t : List ℕ) (n b : ℕ) → width * n + width ≤ length t → set t (width * n + 3) b ≡ putRow t n (counting (rowAt t n) b)
+unfolding counting
+put-beneath t n b h =
+    let other : width * n + 4 ≡ width * n + 3 → ⊥ = λ e. omega arith in
+    let last : getD (set t (width * n + 3) b) (width * n + 4) 0 ≡ getD t (width * n + 4) 0 = getD-set-other t (width * n + 3) (width * n + 4) b 0 other in
+    let whole : set (set t (width * n + 3) b) (width * n + 4) (getD t (width * n + 4) 0) ≡ set t (width * n + 3) b = ap (set (set t (width * n + 3) b) (width * n + 4)) (sym last) ∙ set-getD (set t (width * n + 3) b) (width * n + 4) 0 in
+    let all = put-row t n (row (getD t (width * n) 0) (getD t (width * n + 1) 0) (getD t (width * n + 2) 0) b (getD t (width * n + 4) 0)) h in
+    sym whole ∙ (simp set-getD at all) ∙ ap (λ (r : Row). putRow t n (row (r .kind) (r .id) (r .a) b (r .place))) (row-some t n (omega arith))
 
 -- the first of the rows that were filled in
 pub filled-first : {a b : List ℕ} {n : ℕ} {r : Row} {rs : List Row} → Filled a b n (r ∷ rs) → rowAt b n ≡ r

@@ -1,7 +1,7 @@
 -- Laws of outcomes: what an answer tells of the outcome, what makes an answer right, and a run of values so far. Assumes nothing.
 use mathlib.Core.Path.{_≡_, refl, sym, ap, _∙_}
 use mathlib.Core.List.{List, [], _∷_, _++_, append-nil, append-assoc}
-use Prim.Native.Nat.{ℕ, _+_, _-_, _≤_}
+use Prim.Native.Nat.{ℕ, _+_, _-_, _*_, _≤_}
 use native.Mathlib.Nat.{add-zero}
 use native.Mathlib.Omega.{arith}
 use lib.ListN.{length, length-append}
@@ -13,11 +13,11 @@ use Rattle.table.specs.declared.out.Refusal.{Refusal}
 use Rattle.table.specs.declared.out.Refusal.the-variants.{NoRoom}
 use Rattle.table.specs.declared.out.Out.{Out}
 use Rattle.table.specs.declared.out.Out.the-variants.{Read, Short, Refused}
-use Rattle.table.specs.Rows.{row, room, noRoom}
-use Rattle.table.specs.Code.Rows.{putRow, Filled}
+use Rattle.table.specs.Rows.{row, width, room, noRoom, rowAt}
+use Rattle.table.specs.Code.Rows.{putRow, counting, Filled}
 use Rattle.table.specs.Outcome.{Outcome, read, short, refused, roomFor, prepend, closed, andThen, orEndIf, rowsOf}
 use Rattle.table.specs.Code.Outcome.{answer, Done}
-use Rattle.table.proofs.Filling.{filled-none, filled-then, filled-kept, filled-below, filled-row, full-none, full-more, full-fits, room-used}
+use Rattle.table.proofs.Filling.{filled-none, filled-then, filled-over, filled-kept, filled-below, filled-row, filled-one, filled-first, full-none, full-more, full-fits, room-used}
 
 -- ---- what makes an answer right
 
@@ -188,30 +188,38 @@ module _ {whole rest o : Outcome} {n m : ℕ} {a u v : List ℕ} {r : Out} (next
   pub turn-refused : (k : Refusal) → r ≡ Refused k → Done whole n a v (Refused k)
   turn-refused k q = let w = was-refused h q in sofar-refused inv (more ∙ then-refused _ (w .is)) (w .filled)
 
--- a row that is written last, when what stands beneath it is done
+-- a row that is written first, and counts what stands beneath it when that is done
 module _ {whole : Outcome} (kind id ty opening : ℕ) (beneath : ℕ → Outcome) (u : List ℕ) (m : ℕ) (f : Bool) (full : f ≡ noRoom u m) (is : whole ≡ roomFor (room u m) (closed kind id ty opening (beneath (room u m - 1)))) where
   pub row-full : f ≡ true → Done whole m u u (Refused NoRoom)
   row-full e = is-refused (is ∙ no-room u m _ f full e) (filled-none u m)
 
-  module _ (fits : f ≡ false) (v : List ℕ) (r : Out) (h : Done (beneath (room u (m + 1))) (m + 1) u v r) where
-    is-closed : whole ≡ closed kind id ty opening (beneath (room u (m + 1)))
-    is-closed = is ∙ some-room u m _ f full fits ∙ ap (λ (x : ℕ). closed kind id ty opening (beneath x)) (room-used u u m 1 refl)
+  module _ (fits : f ≡ false) (w : List ℕ) (put : w ≡ putRow u m (row kind id ty 0 opening)) (v : List ℕ) (r : Out) (h : Done (beneath (room w (m + 1))) (m + 1) w v r) where
+    first : Filled u w m (row kind id ty 0 opening ∷ [])
+    first = rw put (filled-one u m (row kind id ty 0 opening) (full-fits u m f full fits))
 
-    pub row-read : (e : Cursor) (k : ℕ) (w : List ℕ) → r ≡ Read e k → w ≡ putRow v m (row kind id ty (k - m - 1) opening) → Done whole m u w (Read e k)
-    unfolding closed
-    row-read e k w q p =
+    is-closed : whole ≡ closed kind id ty opening (beneath (room w (m + 1)))
+    is-closed = is ∙ some-room u m _ f full fits ∙ ap (λ (x : ℕ). closed kind id ty opening (beneath x)) (room-used u w m 1 (first .long))
+
+    -- it stands as it was written
+    still : {rs : List Row} → Filled w v (m + 1) rs → rowAt v m ≡ row kind id ty 0 opening
+    still g = filled-first (filled-then first g)
+
+    pub row-read : (e : Cursor) (k : ℕ) (y : List ℕ) → r ≡ Read e k → y ≡ putRow v m (counting (rowAt v m) (k - m - 1)) → Done whole m u y (Read e k)
+    unfolding closed counting
+    row-read e k y q p =
         let x = was-read h q in
         let l : k - m - 1 ≡ length (x .new) = omega (arith, x .count) in
+        let fits-there : width * m + width ≤ length w = rw (first .long) (full-fits u m f full fits) in
         is-read {rs = row kind id ty (length (x .new)) opening ∷ x .new} (is-closed ∙ ap (closed kind id ty opening) (x .is)) (omega (arith, x .count))
-        (rw (p, l) (filled-row (row kind id ty (length (x .new)) opening) (full-fits u m f full fits) (x .filled)))
+        (rw (p, still (x .filled), l) (filled-over first (filled-row (row kind id ty (length (x .new)) opening) fits-there (x .filled))))
 
     pub row-short : (x : Shortage) → r ≡ Short x → Done whole m u v (Short x)
     unfolding closed
-    row-short x q = let w = was-short h q in is-short (is-closed ∙ ap (closed kind id ty opening) (w .is)) (filled-below (w .filled))
+    row-short x q = let z = was-short h q in is-short (is-closed ∙ ap (closed kind id ty opening) (z .is)) (filled-over first (filled-below (z .filled)))
 
     pub row-refused : (x : Refusal) → r ≡ Refused x → Done whole m u v (Refused x)
     unfolding closed
-    row-refused x q = let w = was-refused h q in is-refused (is-closed ∙ ap (closed kind id ty opening) (w .is)) (filled-below (w .filled))
+    row-refused x q = let z = was-refused h q in is-refused (is-closed ∙ ap (closed kind id ty opening) (z .is)) (filled-over first (filled-below (z .filled)))
 
 -- rows that were written first
 pub is-after : {o : Outcome} {n : ℕ} {a b c : List ℕ} {rs : List Row} {r : Out} → Filled a b n rs → Done o (n + length rs) b c r → Done (prepend rs o) n a c r

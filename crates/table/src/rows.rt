@@ -3,7 +3,7 @@ ghost use mathlib.Core.Path.{_≡_};
 ghost use Prim.Native.Nat.{_+_, _*_, _≤_};
 ghost use lib.ListN.{length};
 ghost use Rattle.table.specs.Rows.{width, noRoom, rowAt};
-ghost use Rattle.table.specs.Code.Rows.{putRow, clearedFrom};
+ghost use Rattle.table.specs.Code.Rows.{putRow, counting, clearedFrom};
 
 pub struct Row {
     pub kind: u64,
@@ -34,6 +34,14 @@ pub fn put_row(t: &mut [u64], n: usize, r: Row)
     t[i + 2] = r.a;
     t[i + 3] = r.b;
     t[i + 4] = r.place;
+}
+
+// Sets how many rows stand beneath row n, which is there already.
+pub fn put_beneath(t: &mut [u64], n: usize, beneath: u64)
+    requires { ⌜ width * n + width ≤ length (now t) ⌝ }
+    ensures { λ _. ⌜ now (t .exit) ≡ putRow (now (t .entry)) n (counting (rowAt (now (t .entry)) n) beneath) ⌝ }
+{
+    t[WIDTH * n + 3] = beneath;
 }
 
 // Row n as the table holds it; past the last whole row it is all 0.

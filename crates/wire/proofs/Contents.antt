@@ -78,11 +78,11 @@ module _ (s : List ℕ) (set : Settings) (from n : ℕ) (k : Bool) (keeps : k �
     unfolding cutAt
     cut-there = rw (← keeps, not-false k h) (ap (λ (e : ℕ). take e s) (let z : from + n - 0 ≡ from + n = omega arith in z))
 
--- the DHEADER: all there, read, or short
+-- the DHEADER: it and the contents all there, read, or short
 pub dheader-there : (s : List ℕ) (set : Settings) (c : Cursor) (q n : ℕ) (d : Cursor) → (q + 4 ≤ length s → q ≡ c .pos + paddingOf c (alignmentOf (set .version) 4)) → q + 4 ≤ length s → n ≡ numberAt (set .order) 0 s q 4 → d ≡ cursorAt (q + 4) (c .origin)
-    → (r : Contents) → r ≡ upTo s set d (q + 4 + n) → r ≡ dheaderAt s set c
+    → q + 4 + n ≤ length s → Between d (q + 4 + n) ≡ dheaderAt s set c
 unfolding dheaderAt afterNumber
-dheader-there s set c q n d starts h is e r f = rw (read-there s set c 4 q n (starts h) h is) (f ∙ ap (λ (y : Cursor). upTo s set y (q + 4 + n)) e)
+dheader-there s set c q n d starts h is e l = rw (read-there s set c 4 q n (starts h) h is) (up-to-there s set d (q + 4 + n) l ∙ ap (λ (y : Cursor). upTo s set y (q + 4 + n)) e)
 
 module _ (s : List ℕ) (set : Settings) (c : Cursor) (r : Number) (is : ReadIs s set c 4 r) where
   pub dheader-short : (x : Shortage) → r ≡ number.Short x → Short x ≡ dheaderAt s set c

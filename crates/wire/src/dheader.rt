@@ -30,7 +30,7 @@ fn up_to(s: &[u8], set: Settings, from: Cursor, end: usize) -> Contents
     Contents::Between(from, end)
 }
 
-// The sum cannot wrap: the cursor is inside the data, and the value is a u32. Most are there whole.
+// The sum cannot wrap: the cursor is inside the data, and the value is a u32. Mostly the data has all of the contents.
 fn dheader(s: &[u8], set: Settings, at: Cursor) -> Contents
     ensures { λ r. ⌜ r ≡ dheaderAt (now (s .entry)) set at ⌝ }
 {
@@ -39,7 +39,10 @@ fn dheader(s: &[u8], set: Settings, at: Cursor) -> Contents
     let q = at.start(s, version, 4);
     if q + 4 <= s.len() {
         let n = from_bytes(s, order, q, 4);
-        return up_to(s, set, Cursor::new(q + 4, at.origin), q + 4 + (n as usize));
+        let end = q + 4 + (n as usize);
+        if end <= s.len() {
+            return Contents::Between(Cursor::new(q + 4, at.origin), end);
+        }
     }
     match read_number(s, set, at, 4) {
         Number::Short(x) => Contents::Short(x),

@@ -60,11 +60,11 @@ pub record HeaderId (version : Version) (id : ℕ) : Type 0 where
   pub uncut : askedFor version id ≡ id
 
 -- where the value's place is 0, nothing is said; else the search from here finds the value there, in XCDR1 it is not empty, the id is one that a header
--- has, and the next header's place is told
+-- has, the next header's place is told, and what the value's end comes to is far from what a word holds
 unfoldable pub AheadAt : List ℕ → Settings → ℕ → Cursor → ℕ → ℕ → ℕ → Type 0
 AheadAt s set id at n next zero = Unit {0}
 AheadAt s set id at n next (suc v) =
-    (searchBy s set (set .version) id at ≡ Found n (cursorAt (suc v) (at .origin))) × (set .version ≡ Xcdr1 → 0 < n) × HeaderId (set .version) id × NextIs s set id at next
+    (searchBy s set (set .version) id at ≡ Found n (cursorAt (suc v) (at .origin))) × (set .version ≡ Xcdr1 → 0 < n) × HeaderId (set .version) id × NextIs s set id at next × (suc v + n ≤ length s + 2 ^ 36)
 
 unfoldable pub AheadIs : List ℕ → Settings → ℕ → Cursor → Ahead → Type 0
 AheadIs s set id at r = AheadAt s set id at (r .length) (r .next) (r .value)
@@ -97,10 +97,11 @@ hintAt next = record { next = next; least = 0 }
 abbrev pub hintAfter : Ahead → ℕ → Hint
 hintAfter a id = record { next = a .next; least = id + 1 }
 
--- what the header where a hint says tells: a value's place of 0 tells nothing; else the id has 28 bits at most, and where the hint is true, the
--- lookup finds the member there, and the hint after it is true too
+-- what the header where a hint says tells: a value's place of 0 tells nothing; else the id has 28 bits at most, the value's end is a sum that fits, and
+-- where the hint is true, the lookup finds the member there, and the hint after it is true too
 pub record HeaderAhead (s : List ℕ) (set : Settings) (id : ℕ) (h : Hint) (origin : ℕ) (r : Ahead) : Type 0 where
   pub small : 0 < r .value → id < 2 ^ 28
+  pub near : 0 < r .value → r .value + r .length ≤ length s + 2 ^ 36
   pub found : (back : Cursor) → alignTo s (set .version) back 4 ≡ place.At back → TrueHint s set back origin h → 0 < r .value → locate s set id back ≡ located.Found (r .length) (valueAt (set .version) (r .value) origin) back
   pub on : (back : Cursor) → TrueHint s set back origin h → 0 < r .value → TrueHint s set back origin (hintAfter r id)
 

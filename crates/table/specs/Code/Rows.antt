@@ -4,11 +4,15 @@ use mathlib.Core.Path.{_≡_}
 use mathlib.Core.List.{List, [], _∷_, _++_}
 use lib.ListN.{length, take, drop, replicate}
 use Rattle.table.specs.declared.rows.Row.{Row}
-use Rattle.table.specs.Rows.{width, wordsOf, words}
+use Rattle.table.specs.Rows.{row, width, wordsOf, words}
 
 -- the table with a row at n
 unfoldable pub putRow : List ℕ → ℕ → Row → List ℕ
 putRow t n r = take (width * n) t ++ (wordsOf r ++ drop (width * n + width) t)
+
+-- a row that counts so many rows beneath it, and is as it was but for that
+unfoldable pub counting : Row → ℕ → Row
+counting r b = row (r .kind) (r .id) (r .a) b (r .place)
 
 -- the first i words, and zeros after them
 abbrev pub clearedFrom : ℕ → List ℕ → List ℕ

@@ -13,20 +13,17 @@ add-if1 c = search needs
 from-bytes-requires : tie.Need-from-bytes-requires
 from-bytes-requires c κs = search needs
 
+add-end : tie.Need-add-end
+add-end c = search needs
+
+add-end-2 : tie.Need-add-end-2
+add-end-2 c = search needs
+
 add-new : tie.Need-add-new
 add-new c = search needs
 
 new-requires : tie.Need-new-requires
 new-requires c κs = search needs
-
-add-up-to : tie.Need-add-up-to
-add-up-to c = search needs
-
-add-up-to-2 : tie.Need-add-up-to-2
-add-up-to-2 c = search needs
-
-up-to-requires : tie.Need-up-to-requires
-up-to-requires c κs = search needs
 
 returns : tie.Need-returns
 returns c = search (needs, dheader-there, dheader-read, dheader-short)
@@ -40,11 +37,11 @@ enum-known-x c = search needs
 enum-known-n : tie.Need-enum-known-n
 enum-known-n c = search needs
 
-add-up-to-3 : tie.Need-add-up-to-3
-add-up-to-3 c = omega (arith, dheader-parts _ _ _ _ (c .before .before .before .read-number .ensures) _ _ (c .before .n .given .1))
+add-up-to : tie.Need-add-up-to
+add-up-to c = omega (arith, dheader-parts _ _ _ _ (c .before .before .before .read-number .ensures) _ _ (c .before .n .given .1))
 
-up-to-requires-2 : tie.Need-up-to-requires-2
-up-to-requires-2 c κs = search needs
+up-to-requires : tie.Need-up-to-requires
+up-to-requires c κs = search needs
 
 returns-2 : tie.Need-returns-2
 returns-2 c = search (needs, dheader-there, dheader-read, dheader-short)
@@ -59,16 +56,15 @@ dheader-spec =
     start-requires
     add-if1
     from-bytes-requires
+    add-end
+    add-end-2
     add-new
     new-requires
-    add-up-to
-    add-up-to-2
-    up-to-requires
     returns
     read-number-requires
     enum-known-x
     enum-known-n
-    add-up-to-3
-    up-to-requires-2
+    add-up-to
+    up-to-requires
     returns-2
     returns-3)

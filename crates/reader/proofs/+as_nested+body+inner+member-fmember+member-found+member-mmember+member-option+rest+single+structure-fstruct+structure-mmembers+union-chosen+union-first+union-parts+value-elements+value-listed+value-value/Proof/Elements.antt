@@ -3,8 +3,8 @@ use Rattle.values.proofs.Scalars.{row-next}
 use borrow.Author.Needs.{needs}
 use Prim.Native.Nat.{ℕ}
 use Rattle.reader.proofs.value.elements.Reads as value·elements
-use Rattle.reader.proofs.+as_nested+body+inner+member-fmember+member-found+member-mmember+member-option+rest+structure-fstruct+structure-mmembers+union-chosen+union-first+union-parts+value-elements+value-listed+value-value.Lts-value-elements as lts
-use Rattle.reader.proofs.+as_nested+body+inner+member-fmember+member-found+member-mmember+member-option+rest+structure-fstruct+structure-mmembers+union-chosen+union-first+union-parts+value-elements+value-listed+value-value.Proof.Base.{value·elements-at, as-nested-below}
+use Rattle.reader.proofs.+as_nested+body+inner+member-fmember+member-found+member-mmember+member-option+rest+single+structure-fstruct+structure-mmembers+union-chosen+union-first+union-parts+value-elements+value-listed+value-value.Lts-value-elements as lts
+use Rattle.reader.proofs.+as_nested+body+inner+member-fmember+member-found+member-mmember+member-option+rest+single+structure-fstruct+structure-mmembers+union-chosen+union-first+union-parts+value-elements+value-listed+value-value.Proof.Base.{value·elements-at, as-nested-below}
 use Rattle.reader.proofs.as_nested.Reads as as-nested
 use Rattle.book.proofs.index.place.Reads as place-reads
 use Rattle.kinds.proofs.opens.Reads as opens-reads

@@ -8,8 +8,8 @@ use Rattle.reader.proofs.LookedSteps.{same-long}
 use borrow.Author.Needs.{needs}
 use Prim.Native.Nat.{ℕ}
 use Rattle.reader.proofs.structure.fstruct.Reads as structure·fstruct
-use Rattle.reader.proofs.+as_nested+body+inner+member-fmember+member-found+member-mmember+member-option+rest+structure-fstruct+structure-mmembers+union-chosen+union-first+union-parts+value-elements+value-listed+value-value.Lts-structure-fstruct as lts
-use Rattle.reader.proofs.+as_nested+body+inner+member-fmember+member-found+member-mmember+member-option+rest+structure-fstruct+structure-mmembers+union-chosen+union-first+union-parts+value-elements+value-listed+value-value.Proof.Base.{structure·fstruct-at, member·fmember-below}
+use Rattle.reader.proofs.+as_nested+body+inner+member-fmember+member-found+member-mmember+member-option+rest+single+structure-fstruct+structure-mmembers+union-chosen+union-first+union-parts+value-elements+value-listed+value-value.Lts-structure-fstruct as lts
+use Rattle.reader.proofs.+as_nested+body+inner+member-fmember+member-found+member-mmember+member-option+rest+single+structure-fstruct+structure-mmembers+union-chosen+union-first+union-parts+value-elements+value-listed+value-value.Proof.Base.{structure·fstruct-at, member·fmember-below}
 use Rattle.reader.proofs.member.fmember.Reads as member·fmember
 use Rattle.book.proofs.member.after.Reads as after-reads
 use Rattle.book.proofs.member.members.Reads as members-reads

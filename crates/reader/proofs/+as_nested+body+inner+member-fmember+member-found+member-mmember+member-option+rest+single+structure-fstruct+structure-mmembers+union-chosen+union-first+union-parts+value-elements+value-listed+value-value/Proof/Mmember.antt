@@ -2,8 +2,8 @@
 use borrow.Author.Needs.{needs}
 use Prim.Native.Nat.{ℕ}
 use Rattle.reader.proofs.member.mmember.Reads as member·mmember
-use Rattle.reader.proofs.+as_nested+body+inner+member-fmember+member-found+member-mmember+member-option+rest+structure-fstruct+structure-mmembers+union-chosen+union-first+union-parts+value-elements+value-listed+value-value.Lts-member-mmember as lts
-use Rattle.reader.proofs.+as_nested+body+inner+member-fmember+member-found+member-mmember+member-option+rest+structure-fstruct+structure-mmembers+union-chosen+union-first+union-parts+value-elements+value-listed+value-value.Proof.Base.{member·mmember-at, member·found-below}
+use Rattle.reader.proofs.+as_nested+body+inner+member-fmember+member-found+member-mmember+member-option+rest+single+structure-fstruct+structure-mmembers+union-chosen+union-first+union-parts+value-elements+value-listed+value-value.Lts-member-mmember as lts
+use Rattle.reader.proofs.+as_nested+body+inner+member-fmember+member-found+member-mmember+member-option+rest+single+structure-fstruct+structure-mmembers+union-chosen+union-first+union-parts+value-elements+value-listed+value-value.Proof.Base.{member·mmember-at, member·found-below}
 use Rattle.reader.proofs.member.found.Reads as member·found
 use Rattle.book.proofs.member.id.Reads as id-reads
 use Rattle.lookup.proofs.member.locate.Reads as locate-reads

@@ -18,6 +18,8 @@ use Rattle.reader.proofs.member.option.Reads as member·option
 use Rattle.reader.proofs.member.option.Kinds as member·option-kinds
 use Rattle.reader.proofs.rest.Reads as rest
 use Rattle.reader.proofs.rest.Kinds as rest-kinds
+use Rattle.reader.proofs.single.Reads as single
+use Rattle.reader.proofs.single.Kinds as single-kinds
 use Rattle.reader.proofs.structure.fstruct.Reads as structure·fstruct
 use Rattle.reader.proofs.structure.fstruct.Kinds as structure·fstruct-kinds
 use Rattle.reader.proofs.structure.mmembers.Reads as structure·mmembers
@@ -39,7 +41,7 @@ abbrev pub μ-as-nested : Measures 4 as-nested-kinds.ps ℕ
 μ-as-nested κs a = 14 * a .1 .1 .1 .1 .1 .1 .1 .1 .1 .1 .0
 
 abbrev pub μ-body : Measures 4 body-kinds.ps ℕ
-μ-body κs a = 14 * a .1 .1 .1 .1 .1 .1 .1 .1 .0 + 12
+μ-body κs a = 14 * a .1 .1 .1 .1 .1 .1 .1 .1 .1 .0 + 12
 
 abbrev pub μ-inner : Measures 4 inner-kinds.ps ℕ
 μ-inner κs a = 14 * a .1 .1 .1 .1 .1 .1 .1 .1 .0 + 11
@@ -58,6 +60,9 @@ abbrev pub μ-member·option : Measures 4 member·option-kinds.ps ℕ
 
 abbrev pub μ-rest : Measures 4 rest-kinds.ps ℕ
 μ-rest κs a = 14 * a .1 .1 .1 .1 .1 .1 .1 .1 .0 + 8
+
+abbrev pub μ-single : Measures 4 single-kinds.ps ℕ
+μ-single κs a = 14 * a .1 .1 .1 .1 .1 .1 .1 .1 .1 .0 + 1
 
 abbrev pub μ-structure·fstruct : Measures 4 structure·fstruct-kinds.ps ℕ
 μ-structure·fstruct κs a = 14 * a .1 .1 .1 .1 .1 .1 .1 .1 .0 + 10
@@ -163,6 +168,12 @@ rest-at t = and 4 rest-kinds.ps (is 4 rest-kinds.ps μ-rest t) rest.Pre
 
 abbrev pub rest-below : ℕ → In 4 rest-kinds.ps
 rest-below t = and 4 rest-kinds.ps (falls 4 rest-kinds.ps _<_ μ-rest t) rest.Pre
+
+abbrev pub single-at : ℕ → In 4 single-kinds.ps
+single-at t = and 4 single-kinds.ps (is 4 single-kinds.ps μ-single t) single.Pre
+
+abbrev pub single-below : ℕ → In 4 single-kinds.ps
+single-below t = and 4 single-kinds.ps (falls 4 single-kinds.ps _<_ μ-single t) single.Pre
 
 abbrev pub structure·fstruct-at : ℕ → In 4 structure·fstruct-kinds.ps
 structure·fstruct-at t =

@@ -2,8 +2,8 @@
 use borrow.Author.Needs.{needs}
 use Prim.Native.Nat.{ℕ}
 use Rattle.reader.proofs.member.found.Reads as member·found
-use Rattle.reader.proofs.+as_nested+body+inner+member-fmember+member-found+member-mmember+member-option+rest+structure-fstruct+structure-mmembers+union-chosen+union-first+union-parts+value-elements+value-listed+value-value.Lts-member-found as lts
-use Rattle.reader.proofs.+as_nested+body+inner+member-fmember+member-found+member-mmember+member-option+rest+structure-fstruct+structure-mmembers+union-chosen+union-first+union-parts+value-elements+value-listed+value-value.Proof.Base.{member·found-at, as-nested-below, value·elements-below, value·value-below}
+use Rattle.reader.proofs.+as_nested+body+inner+member-fmember+member-found+member-mmember+member-option+rest+single+structure-fstruct+structure-mmembers+union-chosen+union-first+union-parts+value-elements+value-listed+value-value.Lts-member-found as lts
+use Rattle.reader.proofs.+as_nested+body+inner+member-fmember+member-found+member-mmember+member-option+rest+single+structure-fstruct+structure-mmembers+union-chosen+union-first+union-parts+value-elements+value-listed+value-value.Proof.Base.{member·found-at, as-nested-below, value·elements-below, value·value-below}
 use Rattle.reader.proofs.as_nested.Reads as as-nested
 use Rattle.reader.proofs.value.elements.Reads as value·elements
 use Rattle.reader.proofs.value.value.Reads as value·value

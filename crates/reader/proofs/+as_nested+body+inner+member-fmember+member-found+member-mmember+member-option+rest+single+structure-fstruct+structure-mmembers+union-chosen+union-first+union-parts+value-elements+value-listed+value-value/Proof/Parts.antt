@@ -2,8 +2,8 @@
 use borrow.Author.Needs.{needs}
 use Prim.Native.Nat.{ℕ}
 use Rattle.reader.proofs.union.parts.Reads as union·parts
-use Rattle.reader.proofs.+as_nested+body+inner+member-fmember+member-found+member-mmember+member-option+rest+structure-fstruct+structure-mmembers+union-chosen+union-first+union-parts+value-elements+value-listed+value-value.Lts-union-parts as lts
-use Rattle.reader.proofs.+as_nested+body+inner+member-fmember+member-found+member-mmember+member-option+rest+structure-fstruct+structure-mmembers+union-chosen+union-first+union-parts+value-elements+value-listed+value-value.Proof.Base.{union·parts-at, union·chosen-below, union·first-below}
+use Rattle.reader.proofs.+as_nested+body+inner+member-fmember+member-found+member-mmember+member-option+rest+single+structure-fstruct+structure-mmembers+union-chosen+union-first+union-parts+value-elements+value-listed+value-value.Lts-union-parts as lts
+use Rattle.reader.proofs.+as_nested+body+inner+member-fmember+member-found+member-mmember+member-option+rest+single+structure-fstruct+structure-mmembers+union-chosen+union-first+union-parts+value-elements+value-listed+value-value.Proof.Base.{union·parts-at, union·chosen-below, union·first-below}
 use Rattle.reader.proofs.union.chosen.Reads as union·chosen
 use Rattle.reader.proofs.union.first.Reads as union·first
 use Rattle.book.proofs.member.members.Reads as members-reads
