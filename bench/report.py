@@ -47,7 +47,7 @@ def net(all):
 
 
 def goals(message):
-    return {"prepared": 1.0 if message == "waveform" else 0.6, "whole": 1.0}
+    return {"prepared": 1.0 if message == "waveform" else 0.55, "whole": 1.0}
 
 
 def ratio(message, sides, side, unit):

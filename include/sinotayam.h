@@ -1,6 +1,6 @@
 /* Sinotayam: messages of DDS into value rows. Every call takes any input, ends, and writes nothing outside what it is lent.
    A length counts elements: bytes of a book, a message or data, words of a table or an index. A pointer is not null and its memory does not
-   overlap a part that is written, even where the length is 0. A call keeps nothing and takes no memory of its own but stack: 38,772 bytes were the most that was
+   overlap a part that is written, even where the length is 0. A call keeps nothing and takes no memory of its own but stack: 37,236 bytes were the most that was
    found (README.md says how). */
 #ifndef SINOTAYAM_H
 #define SINOTAYAM_H

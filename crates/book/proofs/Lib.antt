@@ -1,4 +1,5 @@
 pub mod Places
+pub mod Answers
 pub mod Rising
 pub mod Search
 pub mod Indexing

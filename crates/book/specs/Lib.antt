@@ -1,4 +1,5 @@
 pub mod Types
+pub mod Asked
 pub mod Places
 pub mod Labels
 pub mod Rules

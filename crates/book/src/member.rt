@@ -26,9 +26,6 @@ pub struct Run {
 pub fn member_count(b: &[u8], at: usize) -> usize
     ensures { λ r. ⌜ (r ≡ length (typeAt (now (b .entry)) at .members)) × (r < 65536) ⌝ }
 {
-    if is_there(b, at, crate::types::LAST) {
-        return pair_there(b, at, 12);
-    }
     pair_at(b, at, 12)
 }
 

@@ -11,7 +11,7 @@ use Rattle.book.specs.Types.{BookType, Member, noIndex, optional, default, boun
 use Rattle.book.specs.Rules.{sizeOk, versionOk, typeCountOk, headOk, filled, insideOk, ownSizeOk, recordLengthOk, kindOk, extensibilityOk, baseOk, boundFlagOk, codesOk, arrayBoundOk, boundOk, elementOk, memberCountOk, memberKindOk, someMemberOk, ownOk, boundsOk, countOk}
 use Rattle.book.specs.Rules.{otherId, idOk, linkOk, flagsOk, constructOk, labelCountOk, firstOfUnion, firstIdOk, firstKindOk, firstDefaultOk, firstLabelOk, memberOk, membersOk, typeOk, recordOk, recordsOk, bookOk}
 use Rattle.book.specs.Fault.{reasonNumber, faultNumber, unless, _then_, headFault, faultOf}
-use Rattle.reader.specs.Nested.{isMutable, isStructure}
+use Rattle.book.specs.Asked.{isMutable, isStructure}
 use Rattle.fit.specs.Fit.{memberTypes, linksOf, memberSupported, membersSupported, elementSupported, baseSupported, chooses, firstChooses, discriminatorFits, checkClauses, meets}
 use Rattle.fit.specs.Ids.{required, hasHeaders, idFits, otherLow, lowDiffer, idsFit, clausesFor}
 use Rattle.fit.specs.Check.{checkOf}

@@ -11,7 +11,7 @@ use Rattle.book.specs.declared.member.Run.{Run}
 use Rattle.book.specs.Types.{BookType, Member, optional}
 use Rattle.book.specs.Places.{memberAt, typeAt, listed, Started, After}
 use Rattle.book.proofs.Places.{run-more, run-none}
-use Rattle.reader.specs.Nested.{isMutable, isStructure}
+use Rattle.book.specs.Asked.{isMutable, isStructure}
 use Rattle.fit.specs.Ids.{required, hasHeaders, idFits, otherLow, lowDiffer, idsFit}
 
 -- ---- one member

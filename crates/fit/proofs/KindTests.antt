@@ -10,8 +10,8 @@ use Rattle.ground.specs.Choice.{pick, both, every, among}
 use Rattle.ground.proofs.Tests.{apart, both-right}
 use Rattle.ground.proofs.Between.{passes, between}
 use Rattle.book.specs.Types.{BookType, bounded}
+use Rattle.book.specs.Asked.{readAs}
 use Rattle.kinds.specs.Kinds.{isPrimitive, storedOf, opens, unsupportedMember, unsupportedElement, bitmaskStored}
-use Rattle.reader.specs.Value.{readAs}
 use Rattle.shape.proofs.KindTests.{true-is, among-each, scalars, bitmask-among, by-mask, mask-stored, plain-stored}
 use Rattle.fit.specs.Fit.{chooses}
 use Rattle.shape.specs.Shape.{storedKind, isScalar}

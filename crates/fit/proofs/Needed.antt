@@ -29,6 +29,7 @@ use Rattle.text.specs.declared.string.Text.{Text}
 use Rattle.text.specs.declared.string.Text.the-variants as text
 use Rattle.text.specs.Text.{stringType, wstringType}
 use Rattle.book.specs.Types.{BookType, Member, optional, typeNo}
+use Rattle.book.specs.Asked.{readAs, isSequence, isMutable, isStructure}
 use Rattle.choice.specs.Discriminator.{discriminatorOf}
 use Rattle.choice.specs.Select.{selectedOf}
 use Rattle.choice.specs.declared.discriminator.Discriminator.{Discriminator}
@@ -43,11 +44,11 @@ use Rattle.table.specs.Outcome.{Outcome, read, short, refused}
 use Rattle.values.specs.Scalar.{rowed, onBoolean, onFloat128, onNumber, onText, scalarOf, enumOf}
 use Rattle.values.specs.List.{elementsFrom, listOf, onBlock, blockOf, primitivesOf, bitmasksOrTextsOf}
 use Rattle.values.specs.Count.{countAt}
-use Rattle.reader.specs.Value.{Nest, readAs, isSequence, openedFrom, openedList, elementsOf, countedOf, hasDheader, listEndIf, listEnd, listValue, valueOf}
+use Rattle.reader.specs.Value.{Nest, openedFrom, openedList, elementsOf, countedOf, hasDheader, listEndIf, listEnd, listValue, valueOf}
 use Rattle.reader.specs.Member.{byLength, elementCount, foundBy, foundValue, foundOf, onLocated, mmemberOf, onPresent, optionalBy, fmemberBy, fmemberOf}
 use Rattle.reader.specs.Structure.{absorbs, fmembersOf, mmembersOf}
 use Rattle.reader.specs.Union.{memberBy, discriminatorBy, onSelected, onDiscriminator, chosenOf, membersBy}
-use Rattle.reader.specs.Nested.{isMutable, isStructure, hasEnding, beginningOf, endingBy, endingIf, endingOf, membersIf, membersOf, contentsOf, delimitedOf, bodyBy, bodyOf, openedIf, tooDeepIf, nestedAt}
+use Rattle.reader.specs.Nested.{hasEnding, beginningOf, endingBy, endingIf, endingOf, membersIf, membersOf, contentsOf, delimitedOf, bodyBy, bodyOf, openedIf, tooDeepIf, nestedAt}
 use Rattle.fit.proofs.Ends.{finished, broken, ends-move, by-test}
 use Rattle.fit.proofs.Room.{bad-data, bad-type, unsupported, too-deep, no-discriminator, Roomy, Needs, needs-none, needs-read, needs-short, needs-refused, needs-pick, needs-prepend, needs-closed, needs-back, needs-after, needs-room, needs-then, needs-and, needs-end, needs-ending, needs-number, needs-contents}
 

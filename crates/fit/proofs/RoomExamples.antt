@@ -19,15 +19,16 @@ use Rattle.wire.specs.Ends.{keepsEndsBy, cutAt}
 use Rattle.wire.specs.Dheader.{delimitedBy, contentsAt, afterContents}
 use Rattle.kinds.specs.Kinds.{isPrimitive, opens, unsupportedMember, unsupportedElement}
 use Rattle.book.specs.Types.{BookType, Member, noIndex, optional, typeNo}
+use Rattle.book.specs.Asked.{isSequence, primitiveElement, isMutable, isStructure, isDelimited}
 use Rattle.table.specs.declared.rows.Row.{Row}
 use Rattle.table.specs.declared.out.Refusal.the-variants.{NoRoom}
 use Rattle.table.specs.Rows.{row}
 use Rattle.table.specs.Outcome.{Outcome, read, refused, numberOf, refusalNumber, rowsOf, roomFor, prepend, andThen, orEndIf, closed}
 use Rattle.values.specs.Count.{countAt}
-use Rattle.reader.specs.Value.{Nest, isSequence, primitiveElement, openedFrom, openedList, elementsOf, countedOf, hasDheader, listValue, valueOf}
+use Rattle.reader.specs.Value.{Nest, openedFrom, openedList, elementsOf, countedOf, hasDheader, listValue, valueOf}
 use Rattle.reader.specs.Member.{fmemberBy, fmemberOf}
 use Rattle.reader.specs.Structure.{absorbs, fmembersOf}
-use Rattle.reader.specs.Nested.{isMutable, isStructure, isDelimited, unheardIf, mayFailUnheard, beginningOf, endingIf, hasEnding, endingOf, membersIf, membersOf, contentsOf, delimitedOf, bodyBy, bodyOf, openedIf, nestedAt, reading}
+use Rattle.reader.specs.Nested.{unheardIf, mayFailUnheard, beginningOf, endingIf, hasEnding, endingOf, membersIf, membersOf, contentsOf, delimitedOf, bodyBy, bodyOf, openedIf, nestedAt, reading}
 use Rattle.fit.specs.Room.{SameIfRoom}
 
 -- ---- a list of two elements that drops its last one where there is room for one

@@ -29,6 +29,7 @@ use Rattle.wire.proofs.Numbers.{read-inv}
 use Rattle.kinds.specs.Kinds.{isPrimitive, opens, unsupportedMember, unsupportedElement}
 use Rattle.book.specs.Types.{BookType, Member, optional, default, typeNo}
 use Rattle.book.specs.Rules.{isEnum, isList}
+use Rattle.book.specs.Asked.{readAs, isSequence, primitiveElement, isMutable, isStructure}
 use Rattle.choice.specs.Discriminator.{discriminatorOf}
 use Rattle.choice.specs.Select.{selectedOf}
 use Rattle.choice.specs.declared.discriminator.Discriminator.{Discriminator}
@@ -46,11 +47,11 @@ use Rattle.values.specs.List.{elementsFrom, listOf, onBlock, blockOf, primitive
 use Rattle.wire.specs.Dheader.{contentsAt}
 use Rattle.wire.specs.Ends.{keepsEnds, cutAt}
 use Rattle.values.specs.Count.{countAt}
-use Rattle.reader.specs.Value.{Nest, readAs, isSequence, primitiveElement, openedFrom, openedList, elementsOf, countedOf, hasDheader, listEndIf, listEnd, listValue, valueOf}
+use Rattle.reader.specs.Value.{Nest, openedFrom, openedList, elementsOf, countedOf, hasDheader, listEndIf, listEnd, listValue, valueOf}
 use Rattle.reader.specs.Member.{byLength, elementCount, foundBy, foundValue, foundOf, onLocated, mmemberOf, onPresent, optionalBy, fmemberBy, fmemberOf}
 use Rattle.reader.specs.Structure.{absorbs, fmembersOf, mmembersOf}
 use Rattle.reader.specs.Union.{memberBy, discriminatorBy, onSelected, onDiscriminator, chosenOf, membersBy}
-use Rattle.reader.specs.Nested.{isMutable, isStructure, beginningOf, endingBy, endingIf, endingOf, membersIf, membersOf, contentsOf, delimitedOf, bodyBy, bodyOf, openedIf, nestedAt}
+use Rattle.reader.specs.Nested.{beginningOf, endingBy, endingIf, endingOf, membersIf, membersOf, contentsOf, delimitedOf, bodyBy, bodyOf, openedIf, nestedAt}
 use Rattle.fit.specs.Fit as fit
 use Rattle.fit.specs.Fit.{Fit, linksOf, memberTypes, memberSupported, membersSupported, elementSupported, baseSupported, chooses, firstChooses, discriminatorFits, checkClauses}
 use Rattle.shape.specs.Shape as shape

@@ -27,6 +27,7 @@ use Rattle.wire.specs.Dheader.{afterContents}
 use Rattle.kinds.specs.Kinds.{isPrimitive, opens, unsupportedMember, unsupportedElement, alignOf, elementSizeOf}
 use Rattle.text.specs.declared.string.Text.{Text}
 use Rattle.book.specs.Types.{BookType, Member, optional, typeNo}
+use Rattle.book.specs.Asked.{readAs, isSequence, isMutable, isStructure, isDelimited}
 use Rattle.choice.specs.Discriminator.{discriminatorOf}
 use Rattle.choice.specs.Select.{selectedOf}
 use Rattle.choice.specs.declared.discriminator.Discriminator.{Discriminator}
@@ -43,11 +44,11 @@ use Rattle.table.specs.Outcome.{Outcome, read, short, refused, roomFor, prepend
 use Rattle.values.specs.Scalar.{rowed, placeBefore, onBoolean, onFloat128, onNumber, onText, scalarOf, enumOf}
 use Rattle.values.specs.List.{elementsFrom, listOf, onBlock, blockOf, primitivesOf, bitmasksOrTextsOf}
 use Rattle.values.specs.Count.{countAt}
-use Rattle.reader.specs.Value.{Nest, readAs, isSequence, openedFrom, openedList, elementsOf, countedOf, hasDheader, listEndIf, listEnd, listValue, valueOf}
+use Rattle.reader.specs.Value.{Nest, openedFrom, openedList, elementsOf, countedOf, hasDheader, listEndIf, listEnd, listValue, valueOf}
 use Rattle.reader.specs.Member.{byLength, elementCount, foundBy, foundValue, foundOf, onLocated, mmemberOf, onPresent, optionalBy, fmemberBy, fmemberOf}
 use Rattle.reader.specs.Structure.{absorbs, fmembersOf, mmembersOf}
 use Rattle.reader.specs.Union.{memberBy, discriminatorBy, onSelected, onDiscriminator, chosenOf, membersBy}
-use Rattle.reader.specs.Nested.{isMutable, isStructure, isDelimited, unheard, unheardIf, beginningOf, endingBy, endingIf, endingOf, membersIf, membersOf, contentsOf, delimitedOf, bodyBy, bodyOf, openedIf, tooDeepIf, nestedAt, reading}
+use Rattle.reader.specs.Nested.{unheard, unheardIf, beginningOf, endingBy, endingIf, endingOf, membersIf, membersOf, contentsOf, delimitedOf, bodyBy, bodyOf, openedIf, tooDeepIf, nestedAt, reading}
 use Rattle.fit.proofs.Ends.{by-test}
 use Rattle.fit.proofs.Claims.{Claim}
 use Rattle.fit.proofs.Standing.{PlaceIn, place-in, no-place, NumberIn, number-in, no-number, BooleanIn, boolean-in, bad-boolean, no-boolean, TextIn, text-in, bad-text, no-text, ContentsIn, contents-in, contents-past, no-contents}

@@ -16,12 +16,13 @@ use Rattle.wire.specs.Ends.{keepsEndsBy, cutAt}
 use Rattle.wire.specs.Dheader.{upTo, dheaderAt, delimitedBy, contentsAt, afterContents}
 use Rattle.kinds.specs.Kinds.{opens}
 use Rattle.book.specs.Types.{BookType, noIndex, typeNo}
+use Rattle.book.specs.Asked.{isMutable, isStructure, isDelimited}
 use Rattle.table.specs.declared.out.Refusal.the-variants.{InvalidData}
 use Rattle.table.specs.declared.rows.Row.{Row}
 use Rattle.table.specs.Rows.{row}
 use Rattle.table.specs.Outcome.{Outcome, read, refused, roomFor, prepend, andThen, closed}
 use Rattle.reader.specs.Structure.{mmembersOf}
-use Rattle.reader.specs.Nested.{isMutable, isStructure, isDelimited, unheardIf, mayFailUnheard, beginningOf, endingBy, endingIf, hasEnding, endingOf, membersIf, membersOf, contentsOf, delimitedOf, bodyBy, bodyOf, openedIf, nestedAt, reading}
+use Rattle.reader.specs.Nested.{unheardIf, mayFailUnheard, beginningOf, endingBy, endingIf, hasEnding, endingOf, membersIf, membersOf, contentsOf, delimitedOf, bodyBy, bodyOf, openedIf, nestedAt, reading}
 use Rattle.fit.specs.Within.{Within, read-within}
 
 -- a Mutable structure with no members, and a DHEADER of 100 with nothing behind it

@@ -12,10 +12,10 @@ use Rattle.wire.specs.declared.settings.Version.{Version}
 use Rattle.wire.specs.declared.settings.Version.the-variants.{Xcdr1, Xcdr2}
 use Rattle.book.specs.Types.{BookType, Member, optional}
 use Rattle.book.specs.Rules.{isUnion}
+use Rattle.book.specs.Asked.{isMutable, isStructure}
 use Rattle.lookup.specs.Member.{askedFor}
 use Rattle.lookup.specs.Xcdr1 as xcdr1
 use Rattle.lookup.specs.Xcdr2 as xcdr2
-use Rattle.reader.specs.Nested.{isMutable, isStructure}
 use Rattle.fit.specs.Fit.{Clause, checkClauses}
 
 -- ---- of which types ids are asked

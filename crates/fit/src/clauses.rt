@@ -6,6 +6,8 @@ ghost use Rattle.book.specs.Places.{memberAt, typeAt, typesBy};
 ghost use Rattle.fit.specs.Fit.{memberSupported, membersSupported, elementSupported, baseSupported, chooses, discriminatorFits, meets};
 ghost use Rattle.fit.specs.Ids.{clausesFor};
 use crate::ids::ids_fit;
+use book::asked::base_at;
+use book::asked::kind_at;
 use book::index::place;
 use book::member::after;
 use book::member::members;
@@ -25,8 +27,6 @@ use kinds::names::UINT8;
 use kinds::names::UINT16;
 use kinds::names::UINT32;
 use kinds::names::UNION;
-use reader::types::base_at;
-use reader::types::kind_at;
 
 // The kind of type number k.
 fn kind_of(book: &[u8], index: &[u32], k: usize) -> u8

@@ -5,6 +5,8 @@ ghost use Rattle.ground.specs.Choice.{every};
 ghost use Rattle.book.specs.Types.{BookType};
 ghost use Rattle.book.specs.Places.{memberAt, typeAt, listed};
 ghost use Rattle.fit.specs.Ids.{required, hasHeaders, idFits, otherLow, lowDiffer, idsFit};
+use book::asked::is_mutable;
+use book::asked::kind_at;
 use book::member::Run;
 use book::member::after;
 use book::member::id;
@@ -12,8 +14,6 @@ use book::member::is_optional;
 use book::member::members;
 use kinds::names::STRUCTURE;
 use kinds::names::UNION;
-use reader::types::is_mutable;
-use reader::types::kind_at;
 
 // An XCDR1 lookup cuts the wanted id to 16 bits, of which a header holds 14.
 const LOW_BITS: u32 = 65536;

@@ -12,6 +12,7 @@ ghost use Rattle.fit.specs.Code.Check.{tooLong, longestFrom, chainOf, Me
 pub mod clauses;
 pub mod ids;
 
+use book::asked::kind_at;
 use book::index::place;
 use book::judge::judge_into;
 use book::member::after;
@@ -23,7 +24,6 @@ use clauses::clauses_met;
 use kinds::names::ARRAY;
 use kinds::names::ENUM;
 use kinds::names::SEQUENCE;
-use reader::types::kind_at;
 
 // The most types that a book has.
 const TYPES: usize = 64;

@@ -1,5 +1,5 @@
-// What is known of a type by its kind alone: a table of 28 entries in three columns, and the kinds that a rule names. A column costs a third
-// of what a table of structs does, since the compiler builds a constant on the stack at each use.
+// What is known of a type by its kind alone: a table of 28 entries in three columns, and the kinds that a rule names. A look-up is by an arm for each kind, which names its
+// entry: a column that is indexed as it runs is built on the stack at each use (`element_of`, which is asked once for a list).
 ghost use mathlib.Core.Path.{_≡_};
 ghost use Rattle.kinds.specs.Kinds.{alignOf, elementSizeOf, storedOf, isPrimitive, isSigned, unsupportedMember, unsupportedElement, opens, storedByBound, bitmaskStored};
 

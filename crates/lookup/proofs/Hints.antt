@@ -42,10 +42,10 @@ pub head-there : (s : List ℕ) (pos origin : ℕ) → HeadOrEnd s pos origin �
 head-there s pos origin h k = let i = h .inside in h .head (omega arith)
 
 pub ahead-at : (s : List ℕ) (set : Settings) (id : ℕ) (h : Hint) (origin : ℕ) (r : Ahead) → h .least ≤ id → HeadOrEnd s (h .next) origin → 4 ≤ length s - h .next → AheadIs s set id (cursorAt (h .next) origin) r → HeaderAhead s set id h origin r
-ahead-at s set id h origin r from near left is = record { small = λ k. ahead-small s set id _ _ r is (more k); near = λ k. ahead-near s set id _ _ r is (more k); found = at-it; on = further }
+ahead-at s set id h origin r from stands left is = record { small = λ k. ahead-small s set id _ _ r is (more k); near = λ k. ahead-near s set id _ _ r is (more k); found = at-it; on = further }
   where
     there : h .next + 4 ≤ length s
-    there = head-there s (h .next) origin near left .inside
+    there = head-there s (h .next) origin stands left .inside
 
     more : 0 < r .value → r .value ≡ suc (r .value - 1)
     more k = omega arith

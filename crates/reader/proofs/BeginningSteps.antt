@@ -19,6 +19,7 @@ use Rattle.wire.specs.Place.{cursorAt}
 use Rattle.wire.specs.Dheader.{contentsAt}
 use Rattle.wire.proofs.Moves.{after-at, after-short}
 use Rattle.book.specs.Places.{typeAt}
+use Rattle.book.specs.Asked.{isDelimited}
 use Rattle.lookup.specs.Xcdr1.{seekToSentinel}
 use Rattle.table.specs.declared.out.Refusal.{Refusal}
 use Rattle.table.specs.declared.out.Refusal.the-variants.{InvalidData}
@@ -29,7 +30,7 @@ use Rattle.table.specs.Code.Outcome.{Done}
 use Rattle.table.proofs.Filling.{filled-none}
 use Rattle.table.proofs.Outcomes.{is-read, is-short}
 use Rattle.reader.specs.Code.Ending.{endingAt}
-use Rattle.reader.specs.Nested.{isDelimited, unheard, unheardIf, mayFailUnheard, beginningOf, endingBy}
+use Rattle.reader.specs.Nested.{unheard, unheardIf, mayFailUnheard, beginningOf, endingBy}
 
 module _ (s : List ℕ) (set : Settings) (b : List ℕ) (at : ℕ) (c : Cursor) (o : Bool) (delimited : o ≡ isDelimited (typeAt b at)) (g : Contents) (is : g ≡ contentsAt s set o c) where
   by : (h : Contents) → g ≡ h → beginningOf s set (typeAt b at) c ≡ unheardIf s set (mayFailUnheard set (typeAt b at)) h

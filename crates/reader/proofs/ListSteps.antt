@@ -17,15 +17,16 @@ use Rattle.wire.specs.declared.settings.Settings.{Settings}
 use Rattle.wire.specs.declared.dheader.Contents.the-variants as contents
 use Rattle.wire.specs.declared.number.Number.the-variants as number
 use Rattle.wire.specs.Place.{cursorAt, alignmentOf, paddingOf}
-use Rattle.wire.specs.Number.{numberAt, readNumber}
+use Rattle.wire.specs.Number.{numberAt}
 use Rattle.wire.specs.Ends.{keepsEnds, cutAt}
 use Rattle.wire.specs.Dheader.{contentsAt}
 use Rattle.wire.proofs.Numbers.{read-there}
 use Rattle.wire.proofs.Contents.{cut-whole, cut-past}
 use Rattle.kinds.specs.Kinds.{isPrimitive, unsupportedMember, unsupportedElement, opens}
 use Rattle.kinds.proofs.Table.{primitive-range}
-use Rattle.book.specs.Types.{BookType, typeNo}
+use Rattle.book.specs.Types.{BookType}
 use Rattle.book.specs.Places.{typeAt, typesBy, PlaceOf}
+use Rattle.book.specs.Asked.{isSequence, primitiveElement, readAs}
 use Rattle.table.specs.declared.rows.Row.{Row}
 use Rattle.table.specs.Rows.{room, rowAt}
 use Rattle.table.specs.Outcome.{read}
@@ -38,7 +39,7 @@ use Rattle.values.specs.Count.{countAt}
 use Rattle.values.specs.Code.Lists.{plainOf}
 use Rattle.values.specs.Code.Quick.{Quickly}
 use Rattle.values.proofs.Quickly.{quick-is, quick-not, quick-done, quick-none}
-use Rattle.reader.specs.Value.{Nest, isSequence, primitiveElement, readAs, elementsOf, listValue, valueOf}
+use Rattle.reader.specs.Value.{Nest, elementsOf, listValue, valueOf}
 use Rattle.reader.proofs.ValueSteps.{primitive-read, elements-plain, list-rest, value-list}
 
 -- a primitive but CHAR16: a list may have it, and it opens nothing

@@ -1,5 +1,5 @@
 -- Laws of members: what each return shows. Assumes nothing.
-use Prim.Native.Nat.{ℕ, _+_, _-_, _<_}
+use Prim.Native.Nat.{ℕ, _+_, _<_}
 use mathlib.Core.Path.{_≡_, refl, sym, ap, _∙_}
 use mathlib.Core.Bool.{Bool, true, false, not}
 use borrow.Author.Tests.{not-true}
@@ -32,12 +32,13 @@ use Rattle.wire.specs.Number.{readBoolean}
 use Rattle.wire.specs.Place.{broughtBack}
 use Rattle.book.specs.Types.{BookType, Member, bounded, optional, typeNo}
 use Rattle.book.specs.Places.{memberAt, typeAt, typesBy, PlaceOf}
+use Rattle.book.specs.Asked.{isSequence, readAs}
 use Rattle.lookup.specs.Member.{locate}
 use Rattle.lookup.specs.declared.member.Located.{Located}
 use Rattle.lookup.specs.declared.member.Located.the-variants as located
 use Rattle.table.specs.declared.out.Refusal.the-variants.{InvalidData}
 use Rattle.kinds.specs.Kinds.{opens, unsupportedMember, bitmaskStored, storedByBound}
-use Rattle.reader.specs.Value.{Nest, isSequence, readAs, elementsOf, valueOf}
+use Rattle.reader.specs.Value.{Nest, elementsOf, valueOf}
 use Rattle.reader.specs.Code.Run.{runOf}
 use Rattle.reader.proofs.RunSteps.{run-single}
 use Rattle.reader.proofs.ValueSteps.{opened-kind, value-opens}

@@ -34,12 +34,13 @@ use Rattle.kinds.proofs.Table.{opened-stored}
 use Rattle.kinds.specs.Kinds.{storedOf, opens}
 use Rattle.book.specs.Types.{BookType, typeNo}
 use Rattle.book.specs.Places.{typeAt, typesBy, PlaceOf}
+use Rattle.book.specs.Asked.{isMutable, isStructure, isDelimited}
 use Rattle.table.specs.declared.out.Refusal.the-variants.{InvalidData, InvalidType, TooDeep, NoRoom}
 use Rattle.values.specs.Scalar.{enumOf}
 use Rattle.reader.specs.Value.{Nest}
 use Rattle.reader.specs.Union.{membersBy}
 use Rattle.reader.specs.Structure.{fmembersOf, mmembersOf}
-use Rattle.reader.specs.Nested.{isMutable, isStructure, isDelimited, beginningOf, endingBy, endingIf, hasEnding, endingOf, membersIf, membersOf, contentsOf, delimitedOf, bodyBy, bodyOf, openedIf, tooDeepIf, nestedAt}
+use Rattle.reader.specs.Nested.{beginningOf, endingBy, endingIf, hasEnding, endingOf, membersIf, membersOf, contentsOf, delimitedOf, bodyBy, bodyOf, openedIf, tooDeepIf, nestedAt}
 
 -- two tests
 and-first : (a b : Bool) → (a && b) ≡ true → a ≡ true

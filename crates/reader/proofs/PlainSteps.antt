@@ -21,9 +21,10 @@ use Rattle.ground.proofs.Between.{passes, between}
 use Rattle.wire.specs.declared.cursor.Cursor.{Cursor}
 use Rattle.wire.specs.declared.settings.Settings.{Settings}
 use Rattle.kinds.specs.Kinds.{unsupportedMember, opens}
-use Rattle.book.specs.Types.{BookType, Member, optional, typeNo}
+use Rattle.book.specs.Types.{BookType, optional, typeNo}
 use Rattle.book.specs.declared.member.Head.{Head}
 use Rattle.book.specs.Places.{memberAt, typeAt, typesBy, PlaceOf, HeadOf}
+use Rattle.book.specs.Asked.{isSequence, primitiveElement, readAs}
 use Rattle.lookup.specs.declared.ahead.Ahead.{Ahead}
 use Rattle.lookup.specs.declared.ahead.Hint.{Hint}
 use Rattle.lookup.specs.Code.Ahead.{HeaderAhead}
@@ -36,7 +37,7 @@ use Rattle.wire.specs.Place.{cursorAt}
 use Rattle.values.specs.Scalar.{scalarOf}
 use Rattle.values.specs.Code.Quick.{isTaken, Quickly}
 use Rattle.values.proofs.Quickly.{quick-as, quick-next, quick-done, quick-none}
-use Rattle.reader.specs.Value.{Nest, isSequence, primitiveElement, readAs, valueOf}
+use Rattle.reader.specs.Value.{Nest, valueOf}
 use Rattle.reader.specs.Member.{byLength, foundBy, foundValue, fmemberBy, fmemberOf}
 
 -- what no kind that is taken is

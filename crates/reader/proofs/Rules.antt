@@ -3,7 +3,7 @@ use Rattle.table.proofs.Filling.{full-fits}
 use Rattle.values.proofs.Quickly.{quick-next}
 use Rattle.values.proofs.Scalars.{row-next}
 use Rattle.reader.proofs.RunSteps.{run-start, run-end}
-use Rattle.reader.proofs.ValueSteps.{elements-unsupported, elements-full, elements-opened, elements-plain, value-none, value-unsupported, value-nested, value-list, value-scalar, value-taken, value-left, list-short, list-past, list-uncounted, list-there, list-rest}
+use Rattle.reader.proofs.ValueSteps.{elements-unsupported, elements-full, elements-opened, elements-plain, value-none, value-unsupported, value-nested, value-list, value-taken, value-left, list-short, list-past, list-uncounted, list-there, list-rest}
 use Rattle.reader.proofs.ListSteps.{list-taken, list-left}
 use Rattle.reader.proofs.MemberSteps.{found-length, found-value, found-opens, mmember-short, mmember-absent, mmember-read, mmember-fell, mmember-refused, optional-looked, optional-short, optional-bad, optional-absent, optional-present, fmember-optional, fmember-value}
 use Rattle.reader.proofs.StructureSteps.{fmembers-start, fmembers-end}

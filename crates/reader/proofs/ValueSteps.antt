@@ -35,6 +35,7 @@ use Rattle.kinds.proofs.Table.{opened-stored, sequence-stored}
 use Rattle.kinds.specs.Kinds.{storedOf, isPrimitive, unsupportedMember, unsupportedElement, opens}
 use Rattle.book.specs.Types.{BookType, typeNo}
 use Rattle.book.specs.Places.{typeAt, typesBy, PlaceOf}
+use Rattle.book.specs.Asked.{isSequence, primitiveElement, readAs}
 use Rattle.table.specs.declared.out.Refusal.the-variants.{InvalidData, Unsupported, NoRoom}
 use Rattle.values.specs.Scalar.{scalarOf}
 use Rattle.values.specs.Code.Lists.{plainOf}
@@ -44,8 +45,8 @@ use Rattle.values.proofs.Lists.{plain-by-kind}
 use Rattle.values.specs.Count.{countAt}
 use Rattle.reader.specs.Code.Run.{runOf}
 use Rattle.reader.proofs.RunSteps.{run-single, run-list}
-use Rattle.reader.proofs.Asked.{read-other}
-use Rattle.reader.specs.Value.{Nest, isSequence, primitiveElement, readAs, openedFrom, openedList, elementsOf, countedOf, hasDheader, listEndIf, listEnd, listValue, valueOf}
+use Rattle.book.proofs.Answers.{read-other}
+use Rattle.reader.specs.Value.{Nest, openedFrom, openedList, elementsOf, countedOf, hasDheader, listEndIf, listEnd, listValue, valueOf}
 use Rattle.reader.specs.Code.Ending.{endingAt}
 
 -- the kinds that open: none of them is NONE, unsupported or a sequence

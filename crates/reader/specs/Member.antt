@@ -15,12 +15,13 @@ use Rattle.wire.specs.declared.number.Boolean.the-variants as boolean
 use Rattle.wire.specs.Number.{readBoolean}
 use Rattle.kinds.specs.Kinds.{elementSizeOf}
 use Rattle.book.specs.Types.{BookType, Member, optional, typeNo}
+use Rattle.book.specs.Asked.{isSequence, primitiveElement}
 use Rattle.lookup.specs.Member.{locate}
 use Rattle.lookup.specs.declared.member.Located.{Located}
 use Rattle.lookup.specs.declared.member.Located.the-variants as located
 use Rattle.table.specs.declared.out.Refusal.the-variants.{InvalidData}
 use Rattle.table.specs.Outcome.{Outcome, read, short, refused, backTo}
-use Rattle.reader.specs.Value.{Nest, isSequence, primitiveElement, elementsOf, valueOf}
+use Rattle.reader.specs.Value.{Nest, elementsOf, valueOf}
 
 -- "A sequence of primitives takes length / size elements", in XCDR2 alone and in the crate's mode alone: order 1, "a list or text reads its own length"
 unfoldable pub byLength : Version → Mode → List BookType → BookType → Bool

@@ -1,8 +1,8 @@
 -- Opening a value, and the depth.
 use Prim.Native.Nat.{ℕ, zero, suc, _-_}
-use mathlib.Core.List.{List, [], _∷_}
+use mathlib.Core.List.{List, []}
 use lib.Dec.{eqb}
-use Rattle.ground.specs.Choice.{pick, both, among}
+use Rattle.ground.specs.Choice.{pick, both}
 use mathlib.Core.Bool.{Bool, true, false, not}
 use Rattle.wire.specs.declared.cursor.Cursor.{Cursor}
 use Rattle.wire.specs.declared.settings.Settings.{Settings}
@@ -15,6 +15,7 @@ use Rattle.wire.specs.Ends.{keepsEnds, cutAt}
 use Rattle.wire.specs.Dheader.{undelimited, contentsAt, afterContents}
 use Rattle.kinds.specs.Kinds.{opens}
 use Rattle.book.specs.Types.{BookType, typeNo}
+use Rattle.book.specs.Asked.{isMutable, isStructure, isDelimited}
 use Rattle.lookup.specs.Xcdr1.{seekToSentinel}
 use Rattle.table.specs.declared.out.Refusal.the-variants.{InvalidData, InvalidType, TooDeep}
 use Rattle.table.specs.Outcome.{Outcome, read, short, refused, roomFor, closed, andThen}
@@ -23,19 +24,7 @@ use Rattle.reader.specs.Value.{Nest}
 use Rattle.reader.specs.Structure.{fmembersOf, mmembersOf}
 use Rattle.reader.specs.Union.{membersBy}
 
--- "0 Final, 1 Appendable, 2 Mutable"
-unfoldable pub isMutable : BookType → Bool
-isMutable t = eqb (t .extensibility) 2
-
--- "22 STRUCTURE", where it is no enum and else a union
-unfoldable pub isStructure : BookType → Bool
-isStructure t = eqb (t .kind) 22
-
 -- ---- what begins a structure or a union, and what ends it
-
--- "XCDR2 Appendable structures and unions read a DHEADER first", "Mutable structures and unions read a DHEADER first"
-unfoldable pub isDelimited : BookType → Bool
-isDelimited t = among (1 ∷ 2 ∷ []) (t .extensibility)
 
 -- "a Mutable union's DHEADER may fail unheard", where ends are not kept
 unfoldable pub mayFailUnheard : Settings → BookType → Bool

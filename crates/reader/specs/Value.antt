@@ -9,8 +9,9 @@ use Rattle.wire.specs.declared.settings.Settings.{Settings}
 use Rattle.wire.specs.Ends.{keepsEnds, cutAt}
 use Rattle.wire.specs.Number.{afterNumber}
 use Rattle.wire.specs.Dheader.{contentsAt, afterContents}
-use Rattle.kinds.specs.Kinds.{isPrimitive, unsupportedMember, unsupportedElement, opens, bitmaskStored}
-use Rattle.book.specs.Types.{BookType, bounded, typeNo}
+use Rattle.kinds.specs.Kinds.{isPrimitive, unsupportedMember, unsupportedElement, opens}
+use Rattle.book.specs.Types.{BookType, typeNo}
+use Rattle.book.specs.Asked.{readAs, isSequence, primitiveElement}
 use Rattle.table.specs.declared.out.Refusal.the-variants.{InvalidData, Unsupported}
 use Rattle.table.specs.Rows.{row}
 use Rattle.table.specs.Outcome.{Outcome, read, short, refused, roomFor, prepend, andThen}
@@ -21,17 +22,6 @@ use Rattle.values.specs.Count.{countAt}
 -- how a structure, enum or union is opened: the data that it is read from, its type's number, its id, the place, and the rows there is room for
 abbrev pub Nest : Type 0
 Nest = List ℕ → ℕ → ℕ → Cursor → ℕ → Outcome
-
--- "A bitmask is 13, 6, 7 or 8 by bound": it is read as the kind that it is stored as
-unfoldable pub readAs : BookType → ℕ
-readAs t = pick (eqb (t .kind) 19) (bitmaskStored (bounded t) (t .bound)) (t .kind)
-
-unfoldable pub isSequence : BookType → Bool
-isSequence t = eqb (t .kind) 25
-
--- "Lists of non-primitives (ENUM and BITMASK count so) have a DHEADER in XCDR2; arrays too. CHAR16 counts as primitive."
-unfoldable pub primitiveElement : List BookType → BookType → Bool
-primitiveElement types t = isPrimitive (typeNo types (t .element) .kind)
 
 module _ (types : List BookType) (s : List ℕ) (set : Settings) (nest : Nest) where
   -- elements that are opened, from number i on, of which some are left: "each element's id is its position"

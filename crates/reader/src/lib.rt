@@ -1,11 +1,11 @@
 // The reading of a value: the Rust's XTypesDeserializer. Its functions call each other in a cycle, and the depth falls at each value
 // that is opened.
 ghost use Rattle.book.specs.Places.{memberAt, typeAt, typesBy};
+ghost use Rattle.book.specs.Asked.{isStructure, isMutable};
 ghost use Rattle.table.specs.Rows.{room};
 ghost use Rattle.table.specs.Code.Outcome.{Done};
 ghost use Rattle.reader.specs.Nested.{reading};
 ghost use Rattle.reader.specs.Code.Cycle.{runIn, membersIn, bodyIn, fmemberIn};
-ghost use Rattle.reader.specs.Nested.{isStructure, isMutable};
 ghost use Rattle.ground.specs.Choice.{both};
 ghost use mathlib.Core.Path.{_≡_};
 ghost use mathlib.Core.Bool.{false};
@@ -17,8 +17,14 @@ pub mod types;
 pub mod union;
 pub mod value;
 
+use book::asked::base_at;
+use book::asked::is_delimited;
+use book::asked::is_mutable;
+use book::asked::kind_at;
+use book::bytes::is_there;
 use book::index::place;
 use book::member::head_at;
+use book::member::head_there;
 use book::member::member_count;
 use kinds::names::ENUM;
 use kinds::names::STRUCTURE;
@@ -31,6 +37,7 @@ use table::rows::is_full;
 use table::rows::put_beneath;
 use table::rows::put_row;
 use table::rows::row_at;
+use values::quick::value_at;
 use values::scalar::enum_type;
 use wire::cursor::Cursor;
 use wire::dheader::Contents;
@@ -84,7 +91,7 @@ pub fn as_nested(
     ensures { λ r. ⌜ Done (runIn (now (book .entry)) (now (index .entry)) (now (s .entry)) set depth ty id count c (room (now (t .entry)) n)) n (now (t .entry)) (now (t .exit)) r ⌝ }
 {
     let at = place(book, index, ty);
-    let kind = types::kind_at(book, at);
+    let kind = kind_at(book, at);
     let mut i: u64 = 0;
     let mut number = id;
     let mut pos = c.pos;
@@ -137,7 +144,8 @@ pub fn as_nested(
     Out::Read(Cursor::new(pos, origin), m)
 }
 
-// One value alone. A slice is handed over by its address, and whoever calls `as_nested` keeps its slices in memory for that: so the loops of members call this.
+// One value alone. A slice is handed over by its address, and whoever calls `as_nested` keeps its slices in memory for that: so `fmember`, which the compiler takes
+// into the structure's loop, calls this.
 pub fn single(
     book: &[u8],
     index: &[u32],
@@ -172,14 +180,14 @@ pub fn body(
     ensures { λ r. ⌜ Done (bodyIn (now (book .entry)) (now (index .entry)) (now (s .entry)) set depth (typeAt (now (book .entry)) at) c (room (now (t .entry)) n)) n (now (t .entry)) (now (t .exit)) r ⌝ }
 {
     if kind == ENUM {
-        return enum_type(s, set, t, types::base_at(book, at), c, n);
+        return enum_type(s, set, t, base_at(book, at), c, n);
     }
     match types::beginning(book, s, set, at, c) {
         Contents::Short(x) => Out::Short(x),
         Contents::Past => Out::Refused(Refusal::InvalidData),
         Contents::Between(d, end) => {
             let part = cut(s, set, 0, end as u64);
-            if (kind == STRUCTURE) & types::is_mutable(book, at) {
+            if (kind == STRUCTURE) & is_mutable(book, at) {
                 return match start_at(part, set, 0 < member_count(book, at), d) {
                     Start::Short(x) => Out::Short(x),
                     Start::From(back, h) => {
@@ -191,7 +199,7 @@ pub fn body(
                 Out::Short(x) => Out::Short(x),
                 Out::Refused(why) => Out::Refused(why),
                 Out::Read(e, k) => {
-                    if set.keeps_ends() & types::is_delimited(book, at) {
+                    if set.keeps_ends() & is_delimited(book, at) {
                         return Out::Read(Cursor::new(end, e.origin), k);
                     }
                     Out::Read(e, k)
@@ -216,15 +224,48 @@ pub fn inner(
     requires { ⌜ both (isStructure (typeAt (now book) at)) (isMutable (typeAt (now book) at)) ≡ false ⌝ }
     ensures { λ r. ⌜ Done (membersIn (now (book .entry)) (now (index .entry)) (now (s .entry)) set depth (typeAt (now (book .entry)) at) c (room (now (t .entry)) n)) n (now (t .entry)) (now (t .exit)) r ⌝ }
 {
-    if types::kind_at(book, at) == STRUCTURE {
+    if kind_at(book, at) == STRUCTURE {
         return structure::fstruct(book, index, s, set, t, at, c, n, depth);
     }
-    let mutable = types::is_mutable(book, at);
+    let mutable = is_mutable(book, at);
     union::parts(book, index, s, set, t, at, mutable, c, n, depth)
 }
 
-// A member of a Final or Appendable type that is no number, boolean or text which stands there, and is not opened. A list of numbers is taken from here, which
-// the compiler takes into the structure's loop.
+// A member of a Final or Appendable type: most are taken where they stand, or opened. That its 9 bytes before its labels are there is asked once, and then of none
+// of them.
+pub fn fmember(
+    book: &[u8],
+    index: &[u32],
+    s: &[u8],
+    set: Settings,
+    t: &mut [u64],
+    p: usize,
+    c: Cursor,
+    n: usize,
+    depth: usize,
+) -> Out
+    ensures { λ r. ⌜ Done (fmemberIn (now (book .entry)) (now (index .entry)) (now (s .entry)) set depth (memberAt (now (book .entry)) p) c (room (now (t .entry)) n)) n (now (t .entry)) (now (t .exit)) r ⌝ }
+{
+    if is_there(book, p, book::member::LAST) {
+        let m = head_there(book, p);
+        if !m.optional {
+            let ty = m.ty;
+            let i = m.id as u64;
+            let kind = plain::kind_of(book, index, ty);
+            let past = value_at(s, set, t, kind, i, c, n);
+            if 0 < past {
+                return Out::Read(Cursor::new(past, c.origin), n + 1);
+            }
+            if kinds::opens(kind) {
+                return single(book, index, s, set, t, ty, i, c, n, depth);
+            }
+        }
+    }
+    rest(book, index, s, set, t, p, c, n, depth)
+}
+
+// A member of a Final or Appendable type that `fmember` did not take or open: an optional one, a list, or one whose bytes in the book are not all there. The
+// compiler takes this into the structure's loop; a list of numbers is taken from here.
 pub fn rest(
     book: &[u8],
     index: &[u32],

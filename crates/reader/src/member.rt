@@ -1,20 +1,15 @@
-// A member: plain, optional, or found by its lookup.
+// A member that is optional, or found by its lookup.
 ghost use Rattle.book.specs.Places.{memberAt};
 ghost use Rattle.table.specs.Rows.{room};
 ghost use Rattle.table.specs.Code.Outcome.{Done};
-ghost use Rattle.reader.specs.Code.Cycle.{foundIn, mmemberIn, optionalIn, fmemberIn};
+ghost use Rattle.reader.specs.Code.Cycle.{foundIn, mmemberIn, optionalIn};
 use crate::as_nested;
-use crate::plain::kind_of;
-use crate::rest;
-use crate::single;
 use crate::types::by_length;
 use crate::types::element_count;
-use crate::types::kind_at;
 use crate::value::elements;
 use crate::value::value;
-use book::bytes::is_there;
+use book::asked::kind_at;
 use book::index::place;
-use book::member::head_there;
 use book::member::id;
 use book::member::type_index;
 use book::types::element;
@@ -22,45 +17,11 @@ use lookup::member::Located;
 use lookup::member::locate;
 use table::out::Out;
 use table::out::Refusal;
-use values::quick::value_at;
 use wire::cursor::Cursor;
 use wire::dheader::cut;
 use wire::number::Boolean;
 use wire::settings::Settings;
 use wire::settings::Version;
-
-// A member of a Final or Appendable type: most are taken where they stand, or opened. That its 9 bytes before its labels are there is asked once, and then of none
-// of them.
-pub fn fmember(
-    book: &[u8],
-    index: &[u32],
-    s: &[u8],
-    set: Settings,
-    t: &mut [u64],
-    p: usize,
-    c: Cursor,
-    n: usize,
-    depth: usize,
-) -> Out
-    ensures { λ r. ⌜ Done (fmemberIn (now (book .entry)) (now (index .entry)) (now (s .entry)) set depth (memberAt (now (book .entry)) p) c (room (now (t .entry)) n)) n (now (t .entry)) (now (t .exit)) r ⌝ }
-{
-    if is_there(book, p, book::member::LAST) {
-        let m = head_there(book, p);
-        if !m.optional {
-            let ty = m.ty;
-            let i = m.id as u64;
-            let kind = kind_of(book, index, ty);
-            let past = value_at(s, set, t, kind, i, c, n);
-            if 0 < past {
-                return Out::Read(Cursor::new(past, c.origin), n + 1);
-            }
-            if kinds::opens(kind) {
-                return single(book, index, s, set, t, ty, i, c, n, depth);
-            }
-        }
-    }
-    rest(book, index, s, set, t, p, c, n, depth)
-}
 
 // Serialization rules 19 and 20: an optional member of a Final or Appendable type. XCDR1 looks it up, XCDR2 asks a boolean.
 pub fn option(

@@ -1,15 +1,15 @@
 // The quick way for a member: most are numbers, booleans, texts or lists of numbers, and there whole; and most headers stand where they are looked for first.
 ghost use Rattle.book.specs.Types.{typeNo};
 ghost use Rattle.book.specs.Places.{memberAt, typesBy};
+ghost use Rattle.book.specs.Asked.{readAs};
 ghost use Rattle.table.specs.Rows.{room, rowAt};
 ghost use Rattle.values.specs.Code.Quick.{Quickly};
-ghost use Rattle.reader.specs.Value.{Nest, readAs, valueOf};
-ghost use Rattle.reader.specs.Member.{fmemberOf, foundValue};
-ghost use Prim.Native.Nat.{ℕ, _+_, _<_};
+ghost use Rattle.reader.specs.Value.{Nest, valueOf};
+ghost use Prim.Native.Nat.{_+_, _<_};
 ghost use mathlib.Core.Path.{_≡_};
 ghost use Rattle.lookup.specs.Code.Ahead.{HeadOrEnd, HeaderAhead};
-use crate::types::kind_at;
-use crate::types::read_as_there;
+use book::asked::kind_at;
+use book::asked::read_as_there;
 use book::bytes::is_there;
 use book::index::place;
 use book::member::head_there;
@@ -27,7 +27,7 @@ use wire::cursor::Cursor;
 use wire::number::from_bytes;
 use wire::settings::Settings;
 
-// The kind that type number `ty` is read as, if its own 14 bytes are there; or 0, which is not taken.
+// The kind that type number `ty` is read as, if its own 14 bytes are there; or 0, which is neither taken nor opened.
 pub fn kind_of(book: &[u8], index: &[u32], ty: usize) -> u8
     ensures { λ r. ⌜ (0 < r → r ≡ readAs (typeNo (typesBy (now (book .entry)) (now (index .entry))) ty)) ⌝ }
 {

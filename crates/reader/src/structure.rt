@@ -1,14 +1,14 @@
 // Structures: the members of one, in order or each by its lookup.
 ghost use mathlib.Core.Path.{_≡_};
 ghost use mathlib.Core.List.{[]};
-ghost use Rattle.book.specs.Places.{memberAt, typeAt};
+ghost use Rattle.book.specs.Places.{typeAt};
 ghost use Rattle.table.specs.Rows.{room};
 ghost use Rattle.table.specs.Code.Outcome.{Done};
 ghost use Rattle.wire.specs.Place.{alignTo};
 ghost use Rattle.lookup.specs.Code.Ahead.{TrueHint};
 ghost use Rattle.reader.specs.Code.Cycle.{fmembersIn, mmembersIn};
 use crate::as_nested;
-use crate::member::fmember;
+use crate::fmember;
 use crate::member::found;
 use crate::member::mmember;
 use crate::plain;
@@ -111,6 +111,7 @@ pub fn mmembers(
             let c = value_at(version, v, origin);
             h = hint_after(ahead, wanted);
             let size = ahead.length;
+            // its end as one number, which fits: two tests fewer
             let own = cut(s, set, 0, (v as u64) + size);
             let kind = plain::kind_found(book, index, p);
             let past = found_value_at(own, set, t, kind, wanted as u64, c, m);
@@ -130,6 +131,7 @@ pub fn mmembers(
                     Out::Refused(k) => return Out::Refused(k),
                 }
             } else {
+                // a cursor of its own: handed over by its address, `c` would be stored for each member
                 let d = value_at(version, v, origin);
                 match found(book, index, own, set, t, p, size, d, m, depth) {
                     Out::Read(_, k) => {

@@ -1,26 +1,22 @@
-// What the cycle asks of a type or a member in the book, where a value's contents begin, and where structures, unions and lists end.
+// What the cycle asks of a type and a member for a rule of its own, where a value's contents begin, and where a Mutable structure and a list end.
 ghost use mathlib.Core.Path.{_≡_};
 ghost use Rattle.book.specs.Places.{memberAt, typeAt, typesBy};
-ghost use Rattle.reader.specs.Value.{isSequence, primitiveElement, readAs};
 ghost use Rattle.reader.specs.Member.{byLength, elementCount};
 ghost use Rattle.reader.specs.Structure.{absorbs};
-ghost use Rattle.reader.specs.Nested.{isMutable, isDelimited, mayFailUnheard, beginningOf, endingBy};
+ghost use Rattle.reader.specs.Nested.{mayFailUnheard, beginningOf, endingBy};
 ghost use Rattle.reader.specs.Code.Ending.{endingAt};
 ghost use Rattle.table.specs.Code.Outcome.{Done};
 ghost use mathlib.Core.List.{List};
-ghost use Prim.Native.Nat.{ℕ, _+_, _<_};
-ghost use lib.ListN.{length};
+ghost use Prim.Native.Nat.{ℕ};
 ghost use Rattle.lookup.specs.Code.Ahead.{TrueHint};
-use book::bytes::byte_there;
-use book::bytes::is_there;
-use book::bytes::quad_there;
+use book::asked::extensibility_at;
+use book::asked::is_delimited;
+use book::asked::is_mutable;
+use book::asked::is_sequence;
+use book::asked::kind_at;
+use book::asked::primitive_element;
 use book::index::place;
-use book::types::bound;
 use book::types::element;
-use book::types::extensibility;
-use book::types::is_bounded;
-use kinds::names::BITMASK;
-use kinds::names::SEQUENCE;
 use kinds::names::STRUCTURE;
 use lookup::ahead::Hint;
 use lookup::ahead::sentinel_from;
@@ -33,75 +29,6 @@ use wire::dheader::contents_at;
 use wire::settings::Mode;
 use wire::settings::Settings;
 use wire::settings::Version;
-
-pub fn kind_at(book: &[u8], at: usize) -> u8
-    ensures { λ r. ⌜ r ≡ typeAt (now (book .entry)) at .kind ⌝ }
-{
-    if is_there(book, at, book::types::LAST) {
-        return byte_there(book, at, 2) as u8;
-    }
-    book::types::kind(book, at) as u8
-}
-
-// Most types have all of their own 14 bytes. That they are there is one test, which the loop of their members asks too.
-fn extensibility_at(book: &[u8], at: usize) -> usize
-    ensures { λ r. ⌜ r ≡ typeAt (now (book .entry)) at .extensibility ⌝ }
-{
-    if is_there(book, at, book::types::LAST) {
-        return byte_there(book, at, 3);
-    }
-    extensibility(book, at)
-}
-
-pub fn base_at(book: &[u8], at: usize) -> u8
-    ensures { λ r. ⌜ r ≡ typeAt (now (book .entry)) at .base ⌝ }
-{
-    book::types::base(book, at) as u8
-}
-
-pub fn is_sequence(book: &[u8], at: usize) -> bool
-    ensures { λ r. ⌜ r ≡ isSequence (typeAt (now (book .entry)) at) ⌝ }
-{
-    kind_at(book, at) == SEQUENCE
-}
-
-pub fn is_mutable(book: &[u8], at: usize) -> bool
-    ensures { λ r. ⌜ r ≡ isMutable (typeAt (now (book .entry)) at) ⌝ }
-{
-    extensibility_at(book, at) == 2
-}
-
-// The kind that a value is read as: a bitmask's by its bound.
-pub fn read_as(book: &[u8], at: usize) -> u8
-    ensures { λ r. ⌜ r ≡ readAs (typeAt (now (book .entry)) at) ⌝ }
-{
-    let kind = kind_at(book, at);
-    if kind == BITMASK {
-        return kinds::bitmask_stored(is_bounded(book, at), bound(book, at));
-    }
-    kind
-}
-
-// The same of a type whose own 14 bytes are there.
-pub fn read_as_there(book: &[u8], at: usize) -> u8
-    requires { ⌜ at + 13 < length (now book) ⌝ }
-    ensures { λ r. ⌜ r ≡ readAs (typeAt (now (book .entry)) at) ⌝ }
-{
-    let kind = byte_there(book, at, 2) as u8;
-    if kind == BITMASK {
-        let bounded = byte_there(book, at, 5) == 1;
-        return kinds::bitmask_stored(bounded, quad_there(book, at, 6));
-    }
-    kind
-}
-
-// Whether the elements of the list at a place are primitives. The Rust's is_element_type_kind_primitive.
-pub fn primitive_element(book: &[u8], index: &[u32], at: usize) -> bool
-    ensures { λ r. ⌜ r ≡ primitiveElement (typesBy (now (book .entry)) (now (index .entry))) (typeAt (now (book .entry)) at) ⌝ }
-{
-    let q = place(book, index, element(book, at));
-    kinds::is_primitive(kind_at(book, q))
-}
 
 // Whether a member of this type, once found, is taken by the length of its header.
 pub fn by_length(book: &[u8], index: &[u32], set: Settings, at: usize) -> bool
@@ -132,13 +59,6 @@ pub fn absorbs(book: &[u8], at: usize, p: usize) -> bool
     ensures { λ r. ⌜ r ≡ absorbs (typeAt (now (book .entry)) at) (memberAt (now (book .entry)) p) ⌝ }
 {
     (extensibility_at(book, at) == 1) | (book::member::construct(book, p) == 0)
-}
-
-pub fn is_delimited(book: &[u8], at: usize) -> bool
-    ensures { λ r. ⌜ r ≡ isDelimited (typeAt (now (book .entry)) at) ⌝ }
-{
-    let extensibility = extensibility_at(book, at);
-    (extensibility == 1) | (extensibility == 2)
 }
 
 // Whether a DHEADER that is short is not heard: a Mutable union's, where ends are not kept.

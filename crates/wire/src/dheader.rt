@@ -30,7 +30,7 @@ fn up_to(s: &[u8], set: Settings, from: Cursor, end: usize) -> Contents
     Contents::Between(from, end)
 }
 
-// The sum cannot wrap: the cursor is inside the data, and the value is a u32. Mostly the data has all of the contents.
+// The sum cannot wrap: the cursor is inside the data, and the value is a u32. Mostly the data has all of the contents: then the mode is not asked.
 fn dheader(s: &[u8], set: Settings, at: Cursor) -> Contents
     ensures { λ r. ⌜ r ≡ dheaderAt (now (s .entry)) set at ⌝ }
 {
