@@ -23,6 +23,7 @@ isDelimited t = among (1 ∷ 2 ∷ []) (t .extensibility)
 unfoldable pub readAs : BookType → ℕ
 readAs t = pick (eqb (t .kind) 19) (bitmaskStored (bounded t) (t .bound)) (t .kind)
 
+-- "25 SEQUENCE"
 unfoldable pub isSequence : BookType → Bool
 isSequence t = eqb (t .kind) 25
 
