@@ -1,12 +1,11 @@
 -- Laws of what is told of a book: nothing exactly where every rule is kept, and each reason with a number of its own. Assumes nothing.
 use Prim.Native.Nat.{ℕ, zero, suc, ◌+◌, ◌-◌, ◌≤◌}
 use mathlib.Core.Path.{◌≡◌, refl, sym, ap, ◌∙◌}
-use mathlib.Core.Bool.{Bool, true, false, not, ◌&&◌}
+use mathlib.Core.Bool.{Bool, true, false, ◌&&◌}
 use mathlib.Core.List.{List, [], ◌∷◌, ◌++◌}
 use native.Mathlib.Omega.{arith}
 use lib.Dec.{eqb, leb}
 use lib.ListN.{length, drop}
-use borrow.Author.Tests.{not-false}
 use Rattle.ground.specs.Choice.{both}
 use Rattle.ground.proofs.Tests.{apart}
 use Rattle.book.specs.Types.{Member, BookType, pair, type_of, past_type, type_count, types_of}
@@ -65,9 +64,6 @@ pub right_nothing : (f : Fault) → is_right f ≡ true → f ≡ Nothing
 unfolding is_right
 right_nothing Nothing e = refl
 right_nothing (In k why) e = absurd (apart e)
-
-pub asked_nothing : (f : Fault) (t : Bool) → t ≡ is_right f → not t ≡ false → f ≡ Nothing
-asked_nothing f t e z = right_nothing f (sym e ∙ not-false t z)
 
 -- a rule that is kept, and one that is not
 right_kept : (k : ℕ) (why : Reason) (t : Bool) (f : Fault) → is_right (unless t (In k why) then f) ≡ both t (is_right f)

@@ -1,7 +1,7 @@
 -- Laws of the judge's tests. Assumes nothing.
 use Prim.Native.Nat.{ℕ, zero, suc, ◌<◌, ◌≤◌}
 use mathlib.Core.Path.{◌≡◌, refl, sym, ap, ◌∙◌}
-use mathlib.Core.Bool.{Bool, true, false, not, ◌&&◌, ◌||◌}
+use mathlib.Core.Bool.{Bool, true, false, not, ◌&&◌, ◌||◌, and-true}
 use mathlib.Core.List.{List, [], ◌∷◌, ◌++◌}
 use native.Mathlib.Omega.{arith}
 use lib.Dec.{eqb, ltb, leb}
@@ -12,7 +12,7 @@ use Rattle.ground.proofs.Tests.{both_second}
 use Rattle.book.specs.declared.member.Run.{Run}
 use Rattle.book.specs.Types.{Member, BookType, bounded, no_index, member_of, past_member, members_of, type_count}
 use Rattle.book.specs.Places.{from, member_at, type_at, Skipped, listed, earlier, Below, After}
-use Rattle.book.specs.Rules.{codes_ok, kind_ok, extensibility_ok, base_ok, bound_flag_ok, bounds_ok, array_bound_ok, bound_ok, element_ok, count_ok, member_count_ok, member_kind_ok, some_member_ok, own_ok, other_id, link_ok, first_of_union, members_ok, size_ok, version_ok, type_count_ok, head_ok}
+use Rattle.book.specs.Rules.{codes_ok, kind_ok, extensibility_ok, base_ok, bound_flag_ok, bounds_ok, array_bound_ok, bound_ok, element_ok, count_ok, member_count_ok, member_kind_ok, some_member_ok, own_ok, other_id, id_ok, link_ok, flags_ok, construct_ok, label_count_ok, first_of_union, first_id_ok, first_kind_ok, first_default_ok, first_label_ok, member_ok, members_ok, size_ok, version_ok, type_count_ok, head_ok}
 use Rattle.book.proofs.Kept.{kept}
 use Rattle.book.proofs.Places.{run, run_more, run_none, length_members}
 
@@ -73,6 +73,15 @@ before_is b at p n s = rw s.is
 length_earlier : (b : List ℕ) (at n : ℕ) → length (earlier b at n) ≡ n
 unfolding earlier
 length_earlier b at n = length_members n (drop 14 (from b at))
+
+-- a member's rules
+module _ (types : List BookType) (k : ℕ) (t : BookType) (before : List Member) (m : Member) where
+  abbrev always : Bool
+  always = id_ok before m && link_ok k t m && flags_ok m && construct_ok m && label_count_ok m
+
+  pub member_other : first_of_union t before ≡ false → always ≡ member_ok types k t before m
+  unfolding member_ok first_id_ok first_kind_ok first_default_ok first_label_ok
+  member_other e = rw e (simp and-true)
 
 pub union_first_law : (b : List ℕ) (at n kind : ℕ) → kind ≡ (type_at b at).kind → (eqb kind 23 && eqb n 0) ≡ first_of_union (type_at b at) (earlier b at n)
 unfolding first_of_union

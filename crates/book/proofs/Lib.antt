@@ -1,6 +1,5 @@
 pub mod Places
 pub mod Answers
-pub mod Accepting
 pub mod Rising
 pub mod Search
 pub mod Indexing
@@ -8,7 +7,5 @@ pub mod Kept
 pub mod Judging
 pub mod Faults
 pub mod Telling
-pub mod Agreeing
-pub mod Passing
 pub mod Good
 mod Examples

@@ -231,7 +231,7 @@ types_past b [] k h = nothing b
 types_past b (x ∷ xs) zero h = absurd (omega arith)
 types_past b (x ∷ xs) (suc k) h = types_past b xs k (omega arith)
 
-pub types_here : (b index : List ℕ) (k d : ℕ) → k < length index → type_at b (get_or index k d) ≡ type_no (types_by b index) k
+types_here : (b index : List ℕ) (k d : ℕ) → k < length index → type_at b (get_or index k d) ≡ type_no (types_by b index) k
 unfolding type_no types_by
 types_here b [] k d h = absurd (omega arith)
 types_here b (x ∷ xs) zero d h = refl

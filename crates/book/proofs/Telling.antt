@@ -1,25 +1,27 @@
 -- Laws of the judge's walks: what is still to be told is what is told of the whole. Assumes nothing.
-use Prim.Native.Nat.{ℕ, suc, ◌+◌, ◌-◌, ◌*◌, ◌<◌, ◌≤◌}
-use mathlib.Core.Path.{◌≡◌, refl, sym, ◌∙◌}
+use Prim.Native.Nat.{ℕ, zero, suc, ◌+◌, ◌-◌, ◌*◌, ◌<◌, ◌≤◌}
+use mathlib.Core.Path.{◌≡◌, refl, sym, ap, ◌∙◌}
 use mathlib.Core.Bool.{Bool, true, false, not, ◌&&◌, ◌||◌}
 use mathlib.Core.List.{List, [], ◌∷◌, ◌++◌}
 use native.Mathlib.Omega.{arith}
 use native.Mathlib.Numerals.{add-one}
-use lib.Dec.{eqb, leb}
-use lib.ListN.{length, drop}
+use lib.Dec.{eqb, ltb, leb}
+use lib.ListN.{length, take, drop}
 use borrow.Author.Tests.{not-true, not-false, lt-leb, le-leb, eq-eqb, ne_eqb}
-use Rattle.ground.specs.Choice.{every, ◌‥◌, within}
+use Rattle.ground.specs.Choice.{pick, every, ◌‥◌, within}
 use Rattle.book.specs.declared.member.Run.{Run}
+use Rattle.book.specs.declared.fault.Reason.{Reason}
 use Rattle.book.specs.declared.fault.Reason.TheVariants.{Head, RecordLength, CodeRange, TypeLink, Bound, MemberList, FirstMember}
 use Rattle.book.specs.declared.fault.Fault.{Fault}
 use Rattle.book.specs.declared.fault.Fault.TheVariants.{Nothing, In}
-use Rattle.book.specs.Types.{Member, BookType, default, pair, past_member, members_of, past_type, type_no}
-use Rattle.book.specs.Places.{from, member_at, type_at, Skipped, listed, later, earlier, Below, Started, After}
-use Rattle.book.specs.Rules.{member_size, inside_ok, own_size_ok, codes_ok, bounds_ok, element_ok, count_ok, other_id, id_ok, link_ok, flags_ok, construct_ok, label_count_ok, first_of_union, first_id_ok, first_kind_ok, first_default_ok, first_label_ok}
-use Rattle.book.specs.Fault.{is_right, the_head, unless, ◌then◌, own_fault, member_fault, members_fault, record_fault, records_fault}
-use Rattle.book.proofs.Places.{run_more, run_none}
-use Rattle.book.proofs.Judging.{below_more, past_members, one_more}
-use Rattle.book.proofs.Faults.{own_rules, asked_nothing}
+use Rattle.book.specs.Types.{Member, BookType, default, pair, member_of, past_member, members_of, type_of, past_type, type_count, types_of, type_no}
+use Rattle.book.specs.Places.{from, member_at, type_at, Skipped, listed, later, earlier, Below, Started, After, types_by, index_count, indexed}
+use Rattle.book.specs.Rules.{head_ok, member_size, inside_ok, own_size_ok, codes_ok, bounds_ok, element_ok, count_ok, other_id, id_ok, link_ok, flags_ok, construct_ok, label_count_ok, first_of_union, first_id_ok, first_kind_ok, first_default_ok, first_label_ok}
+use Rattle.book.specs.Fault.{is_right, the_head, unless, ◌then◌, head_fault, own_fault, member_fault, members_fault, record_fault, records_fault, fault_of}
+use Rattle.book.proofs.Indexing.{index_types, take_indexed, length_places}
+use Rattle.book.proofs.Places.{label_count_is, run_more, run_none}
+use Rattle.book.proofs.Judging.{below_more, past_members, one_more, few_types}
+use Rattle.book.proofs.Faults.{head_rules, own_rules, right_nothing}
 
 -- what is told by a part tells of the whole
 stops : (f next : Fault) (t : Bool) → t ≡ is_right f → not t ≡ true → f ≡ (f then next)
@@ -32,7 +34,7 @@ stops (In k why) next t e z = refl
 
 goes_on : (f next : Fault) (t : Bool) → t ≡ is_right f → not t ≡ false → (f then next) ≡ next
 unfolding ◌then◌
-goes_on f next t e z = rw (asked_nothing f t e z)
+goes_on f next t e z = rw (right_nothing f (sym e ∙ not-false t z))
 
 -- A RECORD'S OWN BYTES
 module _ (k : ℕ) (t : BookType) (c : Bool) (e : c ≡ codes_ok t) where
@@ -55,11 +57,11 @@ module _ (k : ℕ) (t : BookType) (c : Bool) (e : c ≡ codes_ok t) where
         unfolding unless ◌then◌
         own_count z = rw (own_rules k t, ← e, not-false c y, ← f, not-false o x, ← g, not-false l w, ← h, not-true n z)
 
-        pub own_kept_law : not n ≡ false → Nothing ≡ own_fault k t
+        pub own_kept : not n ≡ false → Nothing ≡ own_fault k t
         unfolding unless ◌then◌
-        own_kept_law z = rw (own_rules k t, ← e, not-false c y, ← f, not-false o x, ← g, not-false l w, ← h, not-false n z)
+        own_kept z = rw (own_rules k t, ← e, not-false c y, ← f, not-false o x, ← g, not-false l w, ← h, not-false n z)
 
-pub ruleset own-laws = (own_codes, own_bounds, own_element, own_count, own_kept_law)
+pub ruleset own-laws = (own_codes, own_bounds, own_element, own_count, own_kept)
 
 -- A MEMBER. A rule that is asked of a union's first alone: the code asks whether it is broken
 broken_first : (first kept : Bool) → (first && not kept) ≡ true → (not first || kept) ≡ false
@@ -304,6 +306,11 @@ module _ (types : List BookType) (b : List ℕ) (at k size l : ℕ) (e : size �
 pub ruleset record-laws = (record_past, record_small, record_own, record_members)
 
 -- THE RECORDS: k of n are passed
+pub records_start : (b : List ℕ) (types : List BookType) (n : ℕ) → records_fault types 0 (n - 0) (from b 7) ≡ records_fault types 0 n (from b 7)
+records_start b types n =
+    let e : n - 0 ≡ n = omega arith in
+    rw e
+
 module _ (b : List ℕ) (types : List BookType) (n k p : ℕ) (whole : Fault) (inv : records_fault types k (n - k) (from b p) ≡ whole) where
   module _ (f : Fault) (some : k < n) (g : f ≡ record_fault types k (from b p)) (t : Bool) (r : t ≡ is_right f) where
     one : (f then records_fault types (suc k) (n - suc k) (past_type (from b p))) ≡ whole
@@ -330,3 +337,33 @@ module _ (b : List ℕ) (types : List BookType) (n k p : ℕ) (whole : Fault) (i
     pub records_end : l ≤ 0 → Nothing ≡ whole
     unfolding records_fault unless
     records_end g = rw (none, ← e, eq-eqb l 0 (omega arith)) at inv
+
+pub ruleset records-laws = (records_start, records_bad, records_turn, records_left, records_end)
+
+-- THE BOOK
+module _ (b : List ℕ) (h : Bool) (e : h ≡ head_ok b) where
+  pub head_told : not h ≡ true → In the_head Head ≡ fault_of b
+  unfolding fault_of unless ◌then◌
+  head_told z = rw (head_rules b, ← e, not-true h z)
+
+  pub head_places : (t : List ℕ) → not h ≡ true → t ≡ pick (head_ok b) (indexed b t) t
+  head_places t z = rw (← e, not-true h z)
+
+  module _ (t u : List ℕ) (n : ℕ) (z : not h ≡ false) (l : 64 ≤ length t) (f : n ≡ index_count b (length t)) (g : u ≡ indexed b t) where
+    good : head_ok b ≡ true
+    good = sym e ∙ not-false h z
+
+    counted : n ≡ type_count b
+    counted = omega (arith, few_types b good)
+
+    pub records_told : (r : Fault) → r ≡ records_fault (types_by b (take (n - 0) u)) 0 (length (take (n - 0) u)) (from b 7) → r ≡ fault_of b
+    unfolding fault_of types_of from unless ◌then◌
+    records_told r k =
+        let c : index_count b (length t) ≡ type_count b = sym f ∙ counted in
+        let m : n - 0 ≡ index_count b (length t) = omega arith in
+        rw (head_rules b, good) (rw (m, g, index_types b t, take_indexed b t, length_places, c) at k)
+
+    pub records_places : u ≡ pick (head_ok b) (indexed b t) t
+    records_places = rw good g
+
+pub ruleset judged-laws = (head_told, head_places, records_told, records_places)

@@ -3,5 +3,4 @@ pub mod Asked
 pub mod Places
 pub mod Labels
 pub mod Rules
-pub mod Right
 pub mod Fault

@@ -1,19 +1,22 @@
 // What is wrong with a book: document 01's rules of a book in reading order, the first that is broken told. Counts are tested before the
 // loops that they bound. Quick tests only accept.
-ghost use Rattle.std.specs.Prelude.{◌≡◌, true, [], ◌+◌, ◌<◌, ◌≤◌, length};
-ghost use Rattle.ground.specs.Choice.{every};
-ghost use Rattle.book.specs.Places.{from, member_at, type_at, listed, earlier, Below, indexed, types_by};
-ghost use Rattle.book.specs.Rules.{head_ok, codes_ok, bounds_ok, element_ok, count_ok, other_id, link_ok, first_of_union, first_kind_ok};
-ghost use Rattle.book.specs.Rules.{book_ok};
-ghost use Rattle.book.specs.Fault.{own_fault, member_fault, members_fault, record_fault, fault_of};
+ghost use Rattle.std.specs.Prelude.{◌≡◌, true, ◌&&◌, List, [], ℕ, ◌+◌, ◌<◌, ◌≤◌, length};
+ghost use Rattle.ground.specs.Choice.{pick, every};
+ghost use Rattle.book.specs.Types.{BookType};
+ghost use Rattle.book.specs.Places.{from, Bare, member_at, type_at, listed, earlier, Below, indexed, types_by};
+ghost use Rattle.book.specs.Rules.{head_ok, codes_ok, bounds_ok, element_ok, count_ok, own_ok, other_id, link_ok, first_of_union, first_kind_ok};
+ghost use Rattle.book.specs.Rules.{flags_ok, construct_ok, label_count_ok, record_ok, book_ok};
+ghost use Rattle.book.specs.Fault.{own_fault, member_fault, members_fault, record_fault, records_fault, fault_of};
 
-use crate::bytes::{byte_at, left_at, pair_at, quad_at, skip};
+use crate::bytes::{byte_at, byte_there, left_at, pair_at, pair_there, quad_at, quad_there, skip};
 use crate::fault::{Fault, HEAD, Reason};
-use crate::index::place;
+use crate::index::{index, place};
 use crate::member::Run;
-use crate::right::{is_plain, size_if_right};
-use crate::types::{ARRAY, BITMASK, ENUM, NONE, SEQUENCE, UNION};
+use crate::types::{ANNOTATION, ARRAY, BITMASK, ENUM, SEQUENCE, STRUCTURE, UNION};
 use crate::{member, types};
+
+// The index of no type.
+const NONE: usize = 65535;
 
 fn head_ok(b: &[u8]) -> bool
     ensures { result ≡ head_ok b.now }
@@ -138,7 +141,7 @@ fn first_of_union(b: &[u8], at: usize, done: usize) -> bool
 }
 
 // Whether the member at p, if it is the first of a union, has a type that a discriminator may have.
-pub fn first_kind_ok(b: &[u8], index: &[u32], first: bool, p: usize) -> bool
+fn first_kind_ok(b: &[u8], index: &[u32], first: bool, p: usize) -> bool
     ensures { result ≡ first_kind_ok (types_by b.now index.now) «first» (member_at b.now p) }
 {
     if !first {
@@ -234,10 +237,124 @@ fn members_fault(b: &[u8], index: &[u32], at: usize, k: usize, room: usize) -> F
     Fault::Nothing
 }
 
+// Whether the member at p, whose 9 bytes are there, keeps the rules of every member but that of its id. Its type, record k, is no enum.
+fn fields_ok(b: &[u8], k: usize, p: usize) -> bool
+    requires { p + 9 ≤ length b.now }
+    ensures { (t : BookType) → (t.kind ≡ 21 → ⊥) → result ≡ true → true ≡ (link_ok k t (member_at b.now p) && flags_ok (member_at b.now p) && construct_ok (member_at b.now p) && label_count_ok (member_at b.now p)) }
+{
+    if k <= pair_there(b, p, 4) {
+        return false;
+    }
+    if 3 < byte_there(b, p, 6) {
+        return false;
+    }
+    if 2 < byte_there(b, p, 7) {
+        return false;
+    }
+    byte_there(b, p, 8) <= 16
+}
+
+// Whether the own bytes, which are there, have an extensibility and no base, bound or element.
+fn is_bare(b: &[u8], at: usize) -> bool
+    requires { at + 14 ≤ length b.now }
+    ensures { result ≡ true → Bare (from b.now at) }
+{
+    if 2 < byte_there(b, at, 3) {
+        return false;
+    }
+    // base, flag and half of the bound; the other half, and the element
+    if quad_there(b, at, 4) != 0 {
+        return false;
+    }
+    quad_there(b, at, 8) == 65535
+}
+
+// Whether the own bytes, which are there, are those of a structure: an extensibility and at most 64 members, and nothing else.
+fn own_plain(b: &[u8], at: usize) -> bool
+    requires { at + 14 ≤ length b.now }
+    ensures { (result ≡ true → (type_at b.now at).kind ≡ 22) × ((k : ℕ) → result ≡ true → true ≡ own_ok k (type_at b.now at)) }
+{
+    if byte_there(b, at, 2) != STRUCTURE {
+        return false;
+    }
+    if is_bare(b, at) {
+        return pair_there(b, at, 12) <= 64;
+    }
+    false
+}
+
+// Whether the record is a structure's that keeps every rule, its ids rising from member to member. Most structures' are: one walk tells of
+// them what else takes two. Of other records it tells nothing.
+fn is_structure(b: &[u8], at: usize, k: usize) -> bool
+    ensures { (types : List BookType) → result ≡ true → true ≡ record_ok types k (from b.now at) }
+{
+    let size = pair_at(b, at, 0);
+    if left_at(b, at) < size {
+        return false;
+    }
+    if size < 14 {
+        return false;
+    }
+    if !own_plain(b, at) {
+        return false;
+    }
+    let mut p = at + 14;
+    let mut left = member::member_count(b, at);
+    let mut room = size - 14;
+    let mut top = 0;
+    while 0 < left {
+        if room < 9 {
+            return false;
+        }
+        let id = quad_there(b, p, 0) as u64;
+        if id < top {
+            return false;
+        }
+        if !fields_ok(b, k, p) {
+            return false;
+        }
+        let step = 9 + 4 * byte_there(b, p, 8);
+        if room < step {
+            return false;
+        }
+        top = id + 1;
+        p += step;
+        room -= step;
+        left -= 1;
+    }
+    room == 0
+}
+
+// Whether the record is of 14 bytes, with an extensibility and a kind that asks for nothing else, and no base, bound, element or member.
+// Most are, and keep every rule.
+fn is_plain(b: &[u8], at: usize) -> bool
+    ensures { (types : List BookType) (k : ℕ) → result ≡ true → true ≡ record_ok types k (from b.now at) }
+{
+    if left_at(b, at) < 14 {
+        return false;
+    }
+    if pair_there(b, at, 0) != 14 {
+        return false;
+    }
+    if ANNOTATION < byte_there(b, at, 2) {
+        return false;
+    }
+    if is_bare(b, at) {
+        return pair_there(b, at, 12) == 0;
+    }
+    false
+}
+
 // Record k, at a place.
 fn record_fault(b: &[u8], index: &[u32], at: usize, k: usize) -> Fault
     ensures { result ≡ record_fault (types_by b.now index.now) k (from b.now at) }
 {
+    if is_plain(b, at) {
+        return Fault::Nothing;
+    }
+    if is_structure(b, at, k) {
+        return Fault::Nothing;
+    }
     let size = pair_at(b, at, 0);
     if left_at(b, at) < size {
         return Fault::In(k, Reason::RecordLength);
@@ -252,39 +369,36 @@ fn record_fault(b: &[u8], index: &[u32], at: usize, k: usize) -> Fault
     members_fault(b, index, at, k, size - 14)
 }
 
-// What is wrong with a book. Where nothing is, it leaves the places of the types, as `index` does: each is written before its record is judged, and a record's links are to earlier ones.
-pub fn judge_into(b: &[u8], lent: &mut [u32]) -> Fault
-    requires { 64 ≤ length lent.old }
-    ensures { (result ≡ fault_of b.now) × (result ≡ Fault.Nothing → lent.new ≡ indexed b.now lent.old) }
+// The records of the index, one after the other from byte 7 on, and nothing after them.
+fn records_fault(b: &[u8], index: &[u32]) -> Fault
+    ensures { result ≡ records_fault (types_by b.now index.now) 0 (length index.now) (from b.now 7) }
 {
-    if !head_ok(b) {
-        return Fault::In(HEAD, Reason::Head);
-    }
-    let n = types::type_count(b);
     let mut k = 0;
     let mut p = 7;
-    while k < n {
-        lent[k] = p as u32;
-        if is_plain(b, p) {
-            p += 14;
-        } else {
-            let size = size_if_right(b, lent, p, k);
-            if 0 < size {
-                p += size;
-            } else {
-                let found = record_fault(b, lent, p, k);
-                if !found.is_right() {
-                    return found;
-                }
-                p = skip(b, p, pair_at(b, p, 0));
-            }
+    while k < index.len() {
+        let found = record_fault(b, index, p, k);
+        if !found.is_right() {
+            return found;
         }
+        p = skip(b, p, pair_at(b, p, 0));
         k += 1;
     }
     if 0 < left_at(b, p) {
         return Fault::In(HEAD, Reason::Head);
     }
     Fault::Nothing
+}
+
+// What is wrong with a book. Leaves the places of the types, which it judges by, as `index` does; where the head is not right it writes none.
+pub fn judge_into(b: &[u8], lent: &mut [u32]) -> Fault
+    requires { 64 ≤ length lent.old }
+    ensures { (result ≡ fault_of b.now) × (lent.new ≡ pick (head_ok b.now) (indexed b.now lent.old) lent.old) }
+{
+    if !head_ok(b) {
+        return Fault::In(HEAD, Reason::Head);
+    }
+    let n = index(b, lent);
+    records_fault(b, &lent[0..n])
 }
 
 // What is wrong with a book: the first broken rule in reading order.

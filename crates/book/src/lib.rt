@@ -7,5 +7,4 @@ pub mod index;
 pub mod judge;
 pub mod labels;
 pub mod member;
-pub mod right;
 pub mod types;

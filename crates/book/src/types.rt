@@ -8,15 +8,14 @@ use crate::bytes::{byte_at, pair_at, quad_at};
 // A type has 14 bytes before its members: the last of them.
 pub const LAST: usize = 13;
 
-// The index of no type.
-pub const NONE: usize = 65535;
-
 // The kinds that rules of a book name.
 pub const BITMASK: usize = 19;
 
 pub const ANNOTATION: usize = 20;
 
 pub const ENUM: usize = 21;
+
+pub const STRUCTURE: usize = 22;
 
 pub const UNION: usize = 23;
 

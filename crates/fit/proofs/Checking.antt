@@ -1,19 +1,20 @@
 -- Laws of the check itself: one for each answer. Assumes nothing.
 use Prim.Native.Nat.{ℕ, ◌-◌, ◌≤◌, ◌<◌}
-use mathlib.Core.Path.{◌≡◌, sym, ap, ◌∙◌}
+use mathlib.Core.Path.{◌≡◌, refl, sym, ap, ◌∙◌}
 use mathlib.Core.Bool.{Bool, true, false, not}
 use mathlib.Core.List.{List}
 use native.Mathlib.Omega.{arith}
 use lib.Dec.{leb}
 use lib.ListN.{length, take}
 use borrow.Author.Tests.{not-true, not-false, lt-ltb, le-ltb}
+use Rattle.ground.specs.Choice.{pick}
 use Rattle.kinds.specs.Kinds.{opens}
 use Rattle.book.specs.Types.{BookType, type_count, types_of, type_no}
 use Rattle.book.specs.Places.{type_at, types_by, PlaceOf, index_count, indexed}
-use Rattle.book.specs.Rules.{book_ok}
+use Rattle.book.specs.Rules.{head_ok, book_ok}
 use Rattle.book.specs.declared.fault.Fault.{Fault}
 use Rattle.book.specs.Fault.{is_right, fault_number, fault_of}
-use Rattle.book.proofs.Good.{count_good, index_good}
+use Rattle.book.proofs.Good.{head_good, count_good, index_good}
 use Rattle.book.proofs.Faults.{book_right}
 use Rattle.fit.specs.Fit.{Clause}
 use Rattle.fit.specs.Ids.{clauses_for}
@@ -61,12 +62,13 @@ module _ (b : List ℕ) (root : ℕ) (onlyXcdr2 : Bool) (f : Fault) (found : f �
     root_small h = omega (arith, judge_few b f found t right z n counted)
 
     -- the types of the book are those that its whole index finds
-    module _ (low : root < n) (l u : List ℕ) (long : length l ≡ 64) (written : u ≡ indexed b l)
+    module _ (low : root < n) (l u : List ℕ) (long : length l ≡ 64) (written : u ≡ pick (head_ok b) (indexed b l) l)
         (r : Bool) (is : r ≡ fits (clauses_for onlyXcdr2) (types_by b (take (n - 0) u)) root) where
       same : r ≡ fits (clauses_for onlyXcdr2) (types_of b) root
       same =
           let m : n - 0 ≡ index_count b (length l) = omega (arith, counted, judge_few b f found t right z n counted) in
-          let e : types_by b (take (n - 0) u) ≡ types_of b = rw (m, written) (index_good b l good (omega arith)) in
+          let w : u ≡ indexed b l = rw (head_good b good) at written in
+          let e : types_by b (take (n - 0) u) ≡ types_of b = rw (m, w) (index_good b l good (omega arith)) in
           is ∙ ap (λ (types : List BookType). fits (clauses_for onlyXcdr2) types root) e
 
       pub check_fit : r ≡ true → 0 ≡ check_of b root onlyXcdr2

@@ -5,4 +5,3 @@ pub mod Members
 mod Examples
 pub mod Aheads
 pub mod Hints
-pub mod Leading

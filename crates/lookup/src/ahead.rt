@@ -39,7 +39,7 @@ pub fn no_header() -> Ahead
 }
 
 // Where the next header stands: past a value, aligned to 4 from the origin; the data's end where that is past it.
-pub fn next_header(s: &[u8], at: usize, size: u64, origin: usize) -> usize
+fn next_header(s: &[u8], at: usize, size: u64, origin: usize) -> usize
     requires { (origin ≤ at) × (at ≤ length s.now) × (size ≤ 2 ^ 35) }
     ensures { PassedTo s.now (cursor_at at origin) size result }
 {
@@ -75,7 +75,7 @@ fn with_nextint(s: &[u8], set: Settings, emheader: u64, pos: usize, origin: usiz
 }
 
 // A header of XCDR2.
-pub fn xcdr2(s: &[u8], set: Settings, wanted: u64, pos: usize, origin: usize) -> Ahead
+fn xcdr2(s: &[u8], set: Settings, wanted: u64, pos: usize, origin: usize) -> Ahead
     requires { HeadAt s.now pos origin × (set.version ≡ Version.Xcdr2) }
     ensures { AheadIs s.now set wanted (cursor_at pos origin) result }
 {
@@ -100,7 +100,7 @@ pub fn xcdr2(s: &[u8], set: Settings, wanted: u64, pos: usize, origin: usize) ->
 }
 
 // A header of XCDR1. An empty one is left to the search, and so is the end marker.
-pub fn xcdr1(s: &[u8], set: Settings, wanted: u64, pos: usize, origin: usize) -> Ahead
+fn xcdr1(s: &[u8], set: Settings, wanted: u64, pos: usize, origin: usize) -> Ahead
     requires { HeadAt s.now pos origin × (set.version ≡ Version.Xcdr1) }
     ensures { AheadIs s.now set wanted (cursor_at pos origin) result }
 {

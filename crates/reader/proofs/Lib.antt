@@ -2,6 +2,7 @@ mod Asked
 mod BeginningSteps
 pub mod RunSteps
 pub mod ValueSteps
+pub mod ListSteps
 pub mod MemberSteps
 pub mod PlainSteps
 pub mod StructureSteps

@@ -1,15 +1,15 @@
 -- Laws of members: what each return shows. Assumes nothing.
 use Prim.Native.Nat.{ℕ, ◌+◌, ◌<◌}
 use mathlib.Core.Path.{◌≡◌, refl, sym, ap, ◌∙◌}
-use mathlib.Core.Bool.{Bool, true, false, not, ◌||◌}
+use mathlib.Core.Bool.{Bool, true, false, not}
 use borrow.Author.Tests.{not-true}
 use mathlib.Core.List.{List, []}
 use native.Mathlib.Nat.{add-zero}
 use lib.ListN.{length}
-use lib.Dec.{T, eqb, leb, leb→le, eqb→eq}
+use lib.Dec.{T, eqb, leb, leb→le}
 use native.Mathlib.Omega.{arith}
 use Rattle.ground.specs.Choice.{pick, both, ◌‥◌, within}
-use Rattle.ground.proofs.Tests.{apart, both_left}
+use Rattle.ground.proofs.Tests.{both_left}
 use Rattle.wire.specs.declared.cursor.Cursor.{Cursor}
 use Rattle.wire.specs.declared.cursor.Shortage.{Shortage}
 use Rattle.wire.specs.declared.settings.Settings.{Settings}
@@ -31,18 +31,17 @@ use Rattle.wire.specs.declared.number.Boolean.TheVariants as boolean
 use Rattle.wire.specs.Number.{read_boolean}
 use Rattle.wire.specs.Place.{brought_back}
 use Rattle.book.specs.Types.{BookType, Member, bounded, optional, type_no}
-use Rattle.book.specs.Places.{member_at, type_at, types_by, PlaceOf, HeadOf}
-use Rattle.book.specs.declared.member.Head.{Head}
+use Rattle.book.specs.Places.{member_at, type_at, types_by, PlaceOf}
 use Rattle.book.specs.Asked.{is_sequence, read_as}
 use Rattle.lookup.specs.Member.{locate}
 use Rattle.lookup.specs.declared.member.Located.{Located}
 use Rattle.lookup.specs.declared.member.Located.TheVariants as located
 use Rattle.table.specs.declared.out.Refusal.TheVariants.{InvalidData}
 use Rattle.kinds.specs.Kinds.{opens, unsupported_member, bitmask_stored, stored_by_bound}
-use Rattle.reader.specs.Value.{Nest, elements_of, list_value, value_of}
+use Rattle.reader.specs.Value.{Nest, elements_of, value_of}
 use Rattle.reader.specs.Code.Run.{run_of}
 use Rattle.reader.proofs.RunSteps.{run_single}
-use Rattle.reader.proofs.ValueSteps.{opened_kind, value_opens, value_list}
+use Rattle.reader.proofs.ValueSteps.{opened_kind, value_opens}
 use Rattle.reader.specs.Member.{by_length, element_count, found_by, found_value, found_of, on_located, mmember_of, on_present, optional_by, fmember_by, fmember_of}
 
 no_length : (types : List BookType) (v : Version) (m : Mode) (t : BookType) → eqb t.kind 25 ≡ false → by_length v m types t ≡ false
@@ -225,23 +224,3 @@ module _ (b index s : List ℕ) (set : Settings) (nest : Nest) (p : ℕ) (c : Cu
     pub fmember_value : o ≡ false → (ty i : ℕ) → ty ≡ (member_at b p).type → i ≡ (member_at b p).id → (u : List ℕ) (r : Out) → Done (value_of (types_by b index) s set nest ty i c (room t n)) n t u r → Done final n t u r
     unfolding fmember_by
     fmember_value e ty i j k u r d = is_same (by false e ∙ rw (← j, ← k)) d
-
--- the kinds of lists: neither is NONE, unsupported, or opens
-module _ (k : ℕ) where
-  listed_by : (f : ℕ → Bool) → f 25 ≡ false → f 26 ≡ false → (eqb k 25 || eqb k 26) ≡ true → f k ≡ false
-  listed_by f x y e = go (eqb k 25) refl e
-    where
-      go : (z : Bool) → eqb k 25 ≡ z → (z || eqb k 26) ≡ true → f k ≡ false
-      go true g h = ap f (eqb→eq k 25 (rw g tt)) ∙ x
-      go false g h = ap f (eqb→eq k 26 (rw h tt)) ∙ y
-
-  listed_some : (eqb k 25 || eqb k 26) ≡ true → k ≡ 0 → ⊥
-  listed_some e z = apart (rw z at e)
-
--- a member that is a list
-pub fmember_list : (b index s : List ℕ) (set : Settings) (nest : Nest) (p : ℕ) (c : Cursor) (t : List ℕ) (n : ℕ) {m : Head} → HeadOf (member_at b p) m → m.optional ≡ false → {at k : ℕ} → PlaceOf b index m.ty at → k ≡ (type_at b at).kind → (eqb k 25 || eqb k 26) ≡ true
-    → {u : List ℕ} {r : Out} → Done (list_value (types_by b index) s set nest (type_at b at) m.id c (room t n)) n t u r → Done (fmember_of (types_by b index) s set nest (member_at b p) c (room t n)) n t u r
-unfolding unsupported_member opens
-fmember_list b index s set nest p c t n {m} head never {at} {k} placed kind e {u} {r} d =
-    fmember_value b index s set nest p c t n m.optional head.option never m.ty m.id head.type head.id u r
-    (value_list b index s set nest m.ty m.id c t n at k placed kind (listed_some k e) (unsupported_member k) refl (listed_by k unsupported_member refl refl e) (opens k) refl (listed_by k opens refl refl e) e u r d)

@@ -16,16 +16,16 @@ pub mod types;
 pub mod union;
 pub mod value;
 
-use book::asked::{base_at, is_delimited, is_mutable, kind_at, read_as};
+use book::asked::{base_at, is_delimited, is_mutable, kind_at};
 use book::bytes::is_there;
 use book::index::place;
 use book::member::{head_at, head_there, member_count};
-use kinds::names::{ARRAY, ENUM, SEQUENCE, STRUCTURE};
+use kinds::names::{ENUM, STRUCTURE};
 use lookup::ahead::{Start, start_at};
 use table::out::{Out, Refusal};
-use table::rows::{Row, is_full, put_beneath, put_row};
-use values::quick::{is_taken, value_at};
-use values::scalar::{enum_type, scalar};
+use table::rows::{Row, is_full, put_beneath, put_row, row_at};
+use values::quick::value_at;
+use values::scalar::enum_type;
 use wire::cursor::Cursor;
 use wire::dheader::{Contents, cut};
 use wire::settings::Settings;
@@ -255,8 +255,8 @@ pub fn fmember(
     rest(book, index, s, set, t, p, c, n, depth)
 }
 
-// A member of a Final or Appendable type that `fmember` did not take or open: an optional one, a list, one that is not there whole or not well-formed, or one whose bytes
-// in the book are not all there. The compiler takes this into the structure's loop, and the two that are most frequent are called for from here.
+// A member of a Final or Appendable type that `fmember` did not take or open: an optional one, a list, or one whose bytes in the book are not all there. The
+// compiler takes this into the structure's loop; a list of numbers is taken from here.
 #[cycle(as_nested_body_fmember_inner_found_mmember_option_rest_single_fstruct_mmembers_chosen_first_parts_elements_listed_value)]
 pub fn rest(
     book: &[u8],
@@ -277,14 +277,10 @@ pub fn rest(
     }
     let ty = m.ty;
     let i = m.id as u64;
-    let at = place(book, index, ty);
-    let kind = kind_at(book, at);
-    if (kind == SEQUENCE) | (kind == ARRAY) {
-        return value::listed(book, index, s, set, t, at, i, c, n, depth);
-    }
-    let own = read_as(book, at);
-    if is_taken(own) {
-        return scalar(s, set, t, own, i, c, n);
+    let past = plain::list(book, index, s, set, t, ty, i, c, n);
+    if 0 < past {
+        let rows = row_at(t, n).b as usize;
+        return Out::Read(Cursor::new(past, c.origin), n + 1 + rows);
     }
     value::value(book, index, s, set, t, ty, i, c, n, depth)
 }

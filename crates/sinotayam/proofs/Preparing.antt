@@ -12,13 +12,14 @@ use borrow.Rule.Slice.PartMut.{put_mid}
 use borrow.Author.Tests.{le-ltb, lt-ltb, eq-eqb, ne_eqb}
 use Rattle.book.specs.Types.{BookType, type_count, types_of}
 use Rattle.book.specs.Places.{from, places_from, index_count, indexed, types_by}
-use Rattle.book.specs.Rules.{book_ok}
+use Rattle.ground.specs.Choice.{pick}
+use Rattle.book.specs.Rules.{head_ok, book_ok}
 use Rattle.book.specs.declared.fault.Reason.{Reason}
 use Rattle.book.specs.declared.fault.Fault.{Fault}
 use Rattle.book.specs.declared.fault.Fault.TheVariants.{Nothing, In}
 use Rattle.book.specs.Fault.{reason_number, fault_number, fault_of}
 use Rattle.book.proofs.Indexing.{places_spell, length_places}
-use Rattle.book.proofs.Good.{count_good}
+use Rattle.book.proofs.Good.{head_good, count_good}
 use Rattle.book.proofs.Faults.{reason_told, told_wrong, told_nothing, right_told}
 use Rattle.sinotayam.specs.declared.answer.Status.{Status}
 use Rattle.sinotayam.specs.declared.answer.Status.TheVariants.{Read, NotPrepared, NoRoom, BadBook}
@@ -150,7 +151,7 @@ module _ (b : List ℕ) (f : Fault) (found : f ≡ fault_of b) (next : List Book
   read_bad k why v w r is d = settled_same (rw (← found, is)) d
 
   -- the count, and the words t as the judge leaves them
-  module _ (t ys : List ℕ) (n : ℕ) (is : f ≡ Nothing) (long : 64 ≤ length t) (g : n ≡ type_count b) (k : ys ≡ indexed b t) where
+  module _ (t ys : List ℕ) (n : ℕ) (is : f ≡ Nothing) (long : 64 ≤ length t) (g : n ≡ type_count b) (k : ys ≡ pick (head_ok b) (indexed b t) t) where
     own_same : with_index b (n ∷ (ys ++ [])) next ≡ with_book b next
     unfolding prepared_from has_places
     own_same =
@@ -158,7 +159,7 @@ module _ (b : List ℕ) (f : Fault) (found : f ≡ fault_of b) (next : List Book
         let few : type_count b ≤ 64 = (count_good b e).1 in
         let h : ltb (type_count b) (length (0 ∷ t)) ≡ true = lt-ltb (type_count b) (length (0 ∷ t)) (omega arith) in
         let i : index_count b (length t) ≡ type_count b = omega arith in
-        let w : ys ≡ places_from b 7 (type_count b) ++ drop (type_count b) t = rw i at k in
+        let w : ys ≡ places_from b 7 (type_count b) ++ drop (type_count b) t = rw (head_good b e, i) at k in
         let u : n ∷ (ys ++ []) ≡ prepared_from b (0 ∷ t) = rw (e, h, append-nil ys, w, g) in
         rw u (same_good b (0 ∷ t) next e h)
 
@@ -166,5 +167,9 @@ module _ (b : List ℕ) (f : Fault) (found : f ≡ fault_of b) (next : List Book
     read_own v w r d = settled_same (sym own_same) d
 
 -- its length
-pub own_words : (b t ys : List ℕ) → ys ≡ indexed b t → length t ≡ 64 → 65 ≡ suc (length (ys ++ []))
-own_words b t ys k l = rw (append-nil ys, k) (simp (length-append, length_places, length-drop) (omega arith))
+pub own_words : (b t ys : List ℕ) → ys ≡ pick (head_ok b) (indexed b t) t → length t ≡ 64 → 65 ≡ suc (length (ys ++ []))
+own_words b t ys k l = rw (append-nil ys, k) (by_head (head_ok b))
+  where
+    by_head : (f : Bool) → 65 ≡ suc (length (pick f (indexed b t) t))
+    by_head true = simp (length-append, length_places, length-drop) (omega arith)
+    by_head false = omega arith

@@ -54,6 +54,17 @@ module _ (s : List ℕ) (set : Settings) (kind count : ℕ) where
   pub elements_start : (c : Cursor) (t : List ℕ) (n : ℕ) → ElementsSofar (elements_from s set kind count 0 c (room t n)) n t t 0 c n
   elements_start c t n = sofar_start (rw sub-zero)
 
+  -- where the quick way took nothing, and where it took all
+  module _ (c : Cursor) (t u : List ℕ) (n r : ℕ) (q : Quickly (elements_from s set kind count 0 c (room t n)) count n c.origin t u r) where
+    pub quick_else : r ≤ 0 → (v : List ℕ) (x : Out) → Done (elements_from s set kind count 0 c (room u n)) n u v x → Done (elements_from s set kind count 0 c (room t n)) n t v x
+    quick_else h v x d = rw (quick_none _ count n c.origin t u r h q) at d
+
+    pub quick_all : 0 < r → (d : Cursor) → d ≡ cursor_at r c.origin → Done (elements_from s set kind count 0 c (room t n)) n t u (Read d (n + count))
+    quick_all h d e = rw e (quick_done count r h q)
+
+    pub quick_count : 0 < r → length t < 2 ^ 64 → n < 2 ^ 64 → Fits w64 (n + count)
+    quick_count h k l = let w = was_read (quick_done count r h q) refl in omega (arith, w.count, filled_fits w.filled)
+
   module _ (whole : Outcome) (n : ℕ) (t u : List ℕ) (i : ℕ) (c : Cursor) (m : ℕ) (inv : ElementsSofar whole n t u i c m) where
     module _ (l : i < count) (v : List ℕ) (r : Out) (h : Done (scalar_of s set kind i c (room u m)) m u v r) where
       pub elements_turn : (d : Cursor) (k : ℕ) → r ≡ Read d k → ElementsSofar whole n t v (i + 1) d k
@@ -152,48 +163,32 @@ quick_empty s set kind count e c t n = rw e (go c.pos refl)
 
 -- a list that the quick way took: its row, once its elements have theirs
 module _ (s : List ℕ) (set : Settings) (kind count id : ℕ) (c : Cursor) (t u : List ℕ) (n r : ℕ) where
-  module _ (f : Bool) (is : f ≡ no_room t n) (free : f ≡ false) (q : Quickly (elements_from s set kind count 0 c (room t (n + 1))) count (n + 1) c.origin t u r) where
-    pub quick_list : 0 < r → (k x : ℕ) → k ≡ stored_of 25 → x ≡ stored_of kind → (v : List ℕ) → v ≡ put_row u n (row k id x count c.pos)
-        → Quickly (list_of s set kind id count c (room t n)) (1 + count) n c.origin t v r
-    unfolding list_of prepend
-    quick_list h k x list stored v p =
-        let w = was_read (quick_done count r h q) refl in
-        let rs = row 25 id (stored_of kind) count c.pos in
-        let z : v ≡ put_row u n rs = rw (list ∙ sequence_stored, stored) at p in
-        let e : list_of s set kind id count c (room t n) ≡ read (cursor_at r c.origin) (rs ∷ w.new) =
-        some_room t n _ f is free ∙ ap (λ (y : ℕ). prepend (rs ∷ []) (elements_from s set kind count 0 c y)) (room_used t t n 1 refl) ∙ ap (prepend (rs ∷ [])) w.is in
-        quick_is (1 + count) r h (is_read e (omega (arith, w.count)) (rw z (filled_row rs (full_fits t n f is free) w.filled)))
+  module _ (f : Bool) (is : f ≡ no_room t n) (free : f ≡ false) (within : c.pos ≤ length s) (enough : count ≤ length s - c.pos) where
+    blocked : (bytes : Bool) (o : Outcome) → on_block (block_at bytes s c count) o ≡ o
+    unfolding on_block block_at
+    blocked true o = rw (← seek_at s c count (omega (arith, within, enough)))
+    blocked false o = refl
 
-  pub quick_listless : r ≤ 0 → Quickly (elements_from s set kind count 0 c (room t (n + 1))) count (n + 1) c.origin t u r → Quickly (list_of s set kind id count c (room t n)) (1 + count) n c.origin t u r
-  quick_listless h q = rw (quick_none _ count (n + 1) c.origin t u r h q) (quick_zero _ (1 + count) n c.origin t r h)
+    module _ (q : Quickly (elements_from s set kind count 0 c (room t (n + 1))) count (n + 1) c.origin t u r) where
+      pub quick_list : 0 < r → (k x : ℕ) → k ≡ stored_of 25 → x ≡ stored_of kind → (v : List ℕ) → v ≡ put_row u n (row k id x count c.pos)
+          → (bytes : Bool) → Quickly (plain_of bytes s set kind id count c (room t n)) (1 + count) n c.origin t v r
+      unfolding plain_of list_of prepend
+      quick_list h k x list stored v p bytes =
+          let w = was_read (quick_done count r h q) refl in
+          let rs = row 25 id (stored_of kind) count c.pos in
+          let z : v ≡ put_row u n rs = rw (list ∙ sequence_stored, stored) at p in
+          let e : plain_of bytes s set kind id count c (room t n) ≡ read (cursor_at r c.origin) (rs ∷ w.new) =
+          blocked bytes _ ∙ some_room t n _ f is free ∙ ap (λ (y : ℕ). prepend (rs ∷ []) (elements_from s set kind count 0 c y)) (room_used t t n 1 refl) ∙ ap (prepend (rs ∷ [])) w.is in
+          quick_is (1 + count) r h (is_read e (omega (arith, w.count)) (rw z (filled_row rs (full_fits t n f is free) w.filled)))
 
--- where the quick way took the whole list, whose block is there, and where it took nothing
-module _ (s : List ℕ) (set : Settings) (kind id count : ℕ) (c : Cursor) (t u : List ℕ) (n r : ℕ) (q : Quickly (list_of s set kind id count c (room t n)) (1 + count) n c.origin t u r) where
-  blocked : c.pos + count ≤ length s → (bytes : Bool) (o : Outcome) → on_block (block_at bytes s c count) o ≡ o
-  unfolding on_block block_at
-  blocked h true o = rw (← seek_at s c count h)
-  blocked h false o = refl
+      -- .. which tells how many they are
+      pub quick_counted : 0 < r → (k x : ℕ) (v : List ℕ) → v ≡ put_row u n (row k id x count c.pos) → (row_at v n).b ≡ count
+      quick_counted h k x v p =
+          let w = was_read (quick_done count r h q) refl in
+          rw p (ap (λ (y : Row). y.b) (filled_first (filled_row (row k id x count c.pos) (full_fits t n f is free) w.filled)))
 
-  pub list_whole : (0 < r → c.pos + count ≤ length s) → 0 < r → (bytes : Bool) (d : Cursor) → d ≡ cursor_at r c.origin → Done (plain_of bytes s set kind id count c (room t n)) n t u (Read d (n + 1 + count))
-  unfolding plain_of
-  list_whole there h bytes d e =
-      let z : n + 1 + count ≡ n + (1 + count) = omega arith in
-      is_same (blocked (there h) bytes _) (rw (e, z) (quick_done (1 + count) r h q))
+  pub none_counted : r ≤ 0 → 0 < r → (row_at u n).b ≡ count
+  none_counted h k = absurd (omega arith)
 
-  module _ (h : r ≤ 0) (bytes : Bool) (p : Place) (is : p ≡ block_at bytes s c count) where
-    untouched : u ≡ t
-    untouched = quick_none _ (1 + count) n c.origin t u r h q
-
-    pub left_short : (x : Shortage) → p ≡ place.Short x → Done (plain_of bytes s set kind id count c (room t n)) n t u (Short x)
-    left_short x e = rw untouched (plain_short s set kind count bytes id c t n p is x e)
-
-    pub left_at : (d : Cursor) → p ≡ place.At d → (v : List ℕ) (x : Out) → Done (list_of s set kind id count c (room u n)) n u v x → Done (plain_of bytes s set kind id count c (room t n)) n t v x
-    left_at d e v x w = plain_at s set kind count bytes id c t n p is d e v x (rw untouched at w)
-
-  -- the rows that were written have their places
-  module _ (h : 0 < r) (long : length t < 2 ^ 64) where
-    pub whole_next : Fits w64 (n + 1)
-    whole_next = let w = was_read (quick_done (1 + count) r h q) refl in omega (arith, w.count, filled_fits w.filled)
-
-    pub whole_past : Fits w64 (n + 1 + count)
-    whole_past = let w = was_read (quick_done (1 + count) r h q) refl in omega (arith, w.count, filled_fits w.filled)
+  pub quick_listless : r ≤ 0 → Quickly (elements_from s set kind count 0 c (room t (n + 1))) count (n + 1) c.origin t u r → (bytes : Bool) → Quickly (plain_of bytes s set kind id count c (room t n)) (1 + count) n c.origin t u r
+  quick_listless h q bytes = rw (quick_none _ count (n + 1) c.origin t u r h q) (quick_zero _ (1 + count) n c.origin t r h)

@@ -99,12 +99,6 @@ pub is_number_law : (kind : ℕ) → ((leb 2 kind && leb kind 14) && not (eqb ki
 unfolding is_number
 is_number_law kind = and_both (leb 2 kind && leb kind 14) (not (eqb kind 11)) ∙ ap (λ (x : Bool). both x (not (eqb kind 11))) (and_both (leb 2 kind) (leb kind 14))
 
-pub is_taken_law : (kind : ℕ) → ((leb 1 kind && leb kind 16) && not (eqb kind 11 || eqb kind 15)) ≡ is_taken kind
-unfolding is_taken
-is_taken_law kind =
-    and_both (leb 1 kind && leb kind 16) (not (eqb kind 11 || eqb kind 15)) ∙ ap (λ (x : Bool). both x (not (eqb kind 11 || eqb kind 15))) (and_both (leb 1 kind) (leb kind 16))
-    ∙ ap (λ (x : Bool). both (within (1 ‥ 16) kind) (not x)) (let two : (eqb kind 11 || eqb kind 15) ≡ among (11 ∷ 15 ∷ []) kind = simp or-false in two)
-
 pub number_so : (kind : ℕ) (b : Bool) → b ≡ is_number kind → b ≡ true → is_number kind ≡ true
 number_so kind b is h = sym is ∙ h
 
@@ -194,26 +188,6 @@ module _ (s : List ℕ) (set : Settings) (id : ℕ) (c : Cursor) (t : List ℕ) 
       let k : string_type s set c ≡ text.Got start (v - 1) (cursor_at (start + v) c.origin) = string_there s set c start v z some fits (sym g ∙ k') in
       let b : place_before 4 start ≡ q = rw e (read_begins q 4) in
       quick_row (scalar_of s set 16 id c (room t n)) t n c.origin (start + v) (row 16 id start (v - 1) q) (rw (k, b)) (omega arith) free u put
-
--- a boolean, a text and a number are taken
-pub taken_boolean : (kind : ℕ) → kind ≡ 1 → is_taken kind ≡ true
-unfolding is_taken
-taken_boolean kind e = rw e
-
-pub taken_text : (kind : ℕ) → kind ≡ 16 → is_taken kind ≡ true
-unfolding is_taken
-taken_text kind e = rw e
-
-pub taken_number : (kind : ℕ) (b : Bool) → b ≡ is_number kind → b ≡ true → is_taken kind ≡ true
-unfolding is_taken
-taken_number kind b is h =
-    let r = ranged kind (sym is ∙ h) in
-    go (eqb kind 11) (ne_eqb kind 11 r.other) (is_taken kind) (between (λ k. eqb k 11 || is_taken k) 13 2 tt kind r.from (omega (arith, r.to)))
-  where
-    go : (y : Bool) → y ≡ false → (x : Bool) → T (y || x) → x ≡ true
-    go true e x t = absurd (let z : ◌≡◌ {A = ℕ} 0 1 = cc in omega arith)
-    go false e true t = refl
-    go false e false t = absurd t
 
 -- what is taken, by the kind that it is
 module _ (kind k : ℕ) (e : kind ≡ k) where

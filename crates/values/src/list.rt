@@ -59,6 +59,25 @@ fn each(s: &[u8], set: Settings, t: &mut [u64], kind: u8, count: u64, at: Cursor
     Out::Read(c, m)
 }
 
+// The elements: all at once where they are numbers that are there whole, else one by one.
+fn elements(
+    s: &[u8],
+    set: Settings,
+    t: &mut [u64],
+    kind: u8,
+    count: u64,
+    at: Cursor,
+    n: usize,
+) -> Out
+    ensures { Done (elements_from s.now set kind count 0 at (room t.old n)) n t.old t.new result }
+{
+    let past = crate::quick::numbers_at(s, set, t, kind, count, at, n);
+    if 0 < past {
+        return Out::Read(Cursor::new(past, at.origin), n + (count as usize));
+    }
+    each(s, set, t, kind, count, at, n)
+}
+
 // The list's row, then its elements.
 fn list(
     s: &[u8],
@@ -83,7 +102,7 @@ fn list(
         place: at.pos as u64,
     };
     put_row(t, n, row);
-    each(s, set, t, kind, count, at, n + 1)
+    elements(s, set, t, kind, count, at, n + 1)
 }
 
 // The bytes of a list of BYTE or UINT8 are asked for in one block, before its row.
@@ -96,9 +115,8 @@ fn block(s: &[u8], bytes: bool, count: u64, at: Cursor) -> Place
     Place::At(at)
 }
 
-// A list by the kind that its elements are read as: as a whole where they are numbers that are there, or none; else one by one. `bytes` says whether their own kind
-// is BYTE or UINT8. A bitmask that is read as UINT8 is no byte: its list asks for no block. There is one such function, and one place that calls it, so the
-// compiler takes it in there.
+// A list by the kind that its elements are read as; `bytes` says whether their own kind is BYTE or UINT8. A bitmask that is read as UINT8 is no byte: its list
+// asks for no block. There is one such function, and one place that calls it, so the compiler takes it in there.
 pub fn plain(
     s: &[u8],
     set: Settings,
@@ -112,10 +130,6 @@ pub fn plain(
 ) -> Out
     ensures { Done (plain_of «bytes» s.now set kind id count at (room t.old n)) n t.old t.new result }
 {
-    let past = crate::quick::list_at(s, set, t, kind, id, count, at, n);
-    if 0 < past {
-        return Out::Read(Cursor::new(past, at.origin), n + 1 + (count as usize));
-    }
     match block(s, bytes, count, at) {
         Place::Short(x) => Out::Short(x),
         Place::At(_) => list(s, set, t, kind, id, count, at, n),

@@ -1,18 +1,19 @@
 // The quick way: numbers, booleans and texts that are there whole, and whose rows have a place. Most members and elements are such. It reads by the same
 // rules as `scalar`, and leaves to that whatever it does not take. A function here tells the position after what it took; or 0, and nothing is done. A word,
 // and not an enum, is what a call hands back in a register.
-ghost use Rattle.std.specs.Prelude.{◌≡◌, true, false, ◌+◌, ◌*◌, ◌≤◌, ◌<◌, length};
+ghost use Rattle.std.specs.Prelude.{◌≡◌, Bool, true, false, ◌+◌, ◌*◌, ◌≤◌, ◌<◌, length};
 ghost use Rattle.kinds.specs.Kinds.{align_of, stored_of};
-ghost use Rattle.table.specs.Rows.{capacity, room, no_room};
+ghost use Rattle.table.specs.Rows.{capacity, room, row_at, no_room};
 ghost use Rattle.table.specs.Code.Rows.{Filled};
 ghost use Rattle.values.specs.Scalar.{scalar_of};
-ghost use Rattle.values.specs.List.{elements_from, list_of};
+ghost use Rattle.values.specs.List.{elements_from};
+ghost use Rattle.values.specs.Code.Lists.{plain_of};
 ghost use Rattle.values.specs.Code.Quick.{is_number, is_taken, Quickly, rows_from, WhereThere};
 
 use crate::scalar::word_of;
 use kinds::names::{
-    BOOLEAN, BYTE, CHAR8, CHAR16, FLOAT32, FLOAT64, FLOAT128, INT8, INT16, INT32, INT64, SEQUENCE,
-    STRING8, UINT8, UINT16, UINT32, UINT64,
+    BOOLEAN, BYTE, CHAR8, FLOAT32, FLOAT64, FLOAT128, INT8, INT16, INT32, INT64, SEQUENCE, STRING8,
+    UINT8, UINT16, UINT32, UINT64,
 };
 use kinds::{stored, widths};
 use table::rows::{Row, is_full, put_row};
@@ -26,13 +27,6 @@ fn is_number(kind: u8) -> bool
     ensures { result ≡ is_number kind }
 {
     (BYTE <= kind) & (kind <= CHAR8) & !(kind == FLOAT128)
-}
-
-// What is taken where it stands.
-pub fn is_taken(kind: u8) -> bool
-    ensures { result ≡ is_taken kind }
-{
-    (BOOLEAN <= kind) & (kind <= STRING8) & !((kind == FLOAT128) | (kind == CHAR16))
 }
 
 // A number and its row. Where the width and the row's kind are known, the machine's code for it is short.
@@ -261,7 +255,7 @@ pub fn any_at(
     at: Cursor,
     n: usize,
 ) -> usize
-    ensures { Quickly (scalar_of s.now set kind id at (room t.old n)) 1 n at.origin t.old t.new result × (0 < result → is_taken kind ≡ true) }
+    ensures { Quickly (scalar_of s.now set kind id at (room t.old n)) 1 n at.origin t.old t.new result }
 {
     if is_full(t, n) {
         return 0;
@@ -364,7 +358,7 @@ fn end_of(s: &[u8], t: &[u64], width: usize, count: u64, pos: usize, n: usize) -
 }
 
 // The numbers of a whole list; of an empty one whatever they would be.
-fn numbers_at(
+pub fn numbers_at(
     s: &[u8],
     set: Settings,
     t: &mut [u64],
@@ -415,7 +409,7 @@ pub fn list_at(
     at: Cursor,
     n: usize,
 ) -> usize
-    ensures { Quickly (list_of s.now set kind id count at (room t.old n)) (1 + count) n at.origin t.old t.new result × (0 < result → at.pos + count ≤ length s.now) }
+    ensures { ((bytes : Bool) → Quickly (plain_of bytes s.now set kind id count at (room t.old n)) (1 + count) n at.origin t.old t.new result) × (0 < result → (row_at t.new n).b ≡ count) }
 {
     let from = at.pos;
     let end = s.len();

@@ -1,6 +1,5 @@
 -- `fit::check` meets its contract, by one law for each number. Assumes nothing.
 use Rattle.fit.proofs.Checking.{judge_few, check_book, check_root, root_small, check_fit, check_unfit}
-use Rattle.book.proofs.Faults.{asked_nothing}
 use borrow.Author.Rules.{rules}
 use Rattle.fit.proofs.check.Statement.{statement}
 use Rattle.fit.proofs.check.Tie as tie
@@ -39,10 +38,10 @@ fits-by-requires : tie.Need-fits-by-requires
 fits-by-requires c κs = search (rules, root_small)
 
 returns-3 : tie.Need-returns-3
-returns-3 c = search (rules, check_fit, c.before.before.before.before.before.before.before.before.before.judge-into.ensures.1 (asked_nothing _ _ c.before.before.before.before.before.before.before.is_right.ensures c.before.before.before.before.before.before.if1.false))
+returns-3 c = search (rules, check_fit)
 
 returns-4 : tie.Need-returns-4
-returns-4 c = search (rules, check_unfit, c.before.before.before.before.before.before.before.before.before.judge-into.ensures.1 (asked_nothing _ _ c.before.before.before.before.before.before.before.is_right.ensures c.before.before.before.before.before.before.if1.false))
+returns-4 c = search (rules, check_unfit)
 
 pub check-spec : {M : Type 1} → statement M
 check-spec =

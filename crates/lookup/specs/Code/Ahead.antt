@@ -77,12 +77,9 @@ pub record LongHead (s : List ℕ) (set : Settings) (emheader pos origin : ℕ) 
   pub is : emheader ≡ number_at set.order 0 s pos 4
   pub code : 4 ≤ xcdr2.lc_of emheader
 
--- a value is passed over to there, if a header stands there; if none does, whatever it is passed over to is so near the end of the data too. The alignment to 4
--- is the same in both versions
+-- a value is passed over to there, if a header stands there; the alignment to 4 is the same in both versions
 unfoldable pub PassedTo : List ℕ → Cursor → ℕ → ℕ → Type 0
-PassedTo s c n q =
-    HeadOrEnd s q c.origin × (q + 4 ≤ length s → (set : Settings) → past_value s set c n ≡ On (cursor_at q c.origin))
-    × (length s < q + 4 → (set : Settings) (y : Cursor) → past_value s set c n ≡ On y → length s < y.pos + 4) × (c.pos ≤ length s → c.pos ≤ q)
+PassedTo s c n q = HeadOrEnd s q c.origin × (q + 4 ≤ length s → (set : Settings) → past_value s set c n ≡ On (cursor_at q c.origin))
 
 -- a hint is true: for the ids from its `least` on a search from the structure's start is one from where it says, if a header stands there
 pub record TrueHint (s : List ℕ) (set : Settings) (back : Cursor) (origin : ℕ) (h : Hint) : Type 0 where

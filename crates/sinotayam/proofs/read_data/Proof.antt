@@ -34,7 +34,7 @@ array-write-index : tie.Need-array-write-index
 array-write-index c = search rules
 
 slice-aggregate-read-data-prepared : tie.Need-slice-aggregate-read-data-prepared
-slice-aggregate-read-data-prepared c = search (rules, own_words, c.before.before.before.before.before.judge-into.ensures.1 c.before.before.enum_told.given.1)
+slice-aggregate-read-data-prepared c = search (rules, own_words)
 
 read-data-prepared-requires : tie.Need-read-data-prepared-requires
 read-data-prepared-requires c κs = search rules
@@ -49,7 +49,7 @@ same-length-2 : tie.Need-same-length-2
 same-length-2 c = search rules
 
 returns-2 : tie.Need-returns-2
-returns-2 c = search (rules, read_own, c.before.before.before.before.before.before.before.before.before.judge-into.ensures.1 c.before.before.before.before.before.before.enum_told.given.1)
+returns-2 c = search (rules, read_own)
 
 pub read-data-spec : {M : Type 1} → statement M
 read-data-spec =

@@ -1,5 +1,5 @@
 -- `book::judge::own_fault`: each return is one reason.
-use Rattle.book.proofs.Telling.{own_codes, own_bounds, own_element, own_count, own_kept_law}
+use Rattle.book.proofs.Telling.{own_codes, own_bounds, own_element, own_count, own_kept}
 use borrow.Author.Rules.{rules}
 use Rattle.book.proofs.judge.own_fault.Statement.{statement}
 use Rattle.book.proofs.judge.own_fault.Tie as tie
@@ -29,7 +29,7 @@ returns-4 : tie.Need-returns-4
 returns-4 c = own_count _ _ _ c.before.before.before.before.before.before.before.codes-ok.ensures c.before.before.before.before.before.before.if1.false _ c.before.before.before.before.before.bound-ok.ensures c.before.before.before.before.if2.false _ c.before.before.before.element-ok.ensures c.before.before.if3.false _ c.before.count-ok.ensures c.if4.true
 
 returns-5 : tie.Need-returns-5
-returns-5 c = own_kept_law _ _ _ c.before.before.before.before.before.before.before.codes-ok.ensures c.before.before.before.before.before.before.if1.false _ c.before.before.before.before.before.bound-ok.ensures c.before.before.before.before.if2.false _ c.before.before.before.element-ok.ensures c.before.before.if3.false _ c.before.count-ok.ensures c.if4.false
+returns-5 c = own_kept _ _ _ c.before.before.before.before.before.before.before.codes-ok.ensures c.before.before.before.before.before.before.if1.false _ c.before.before.before.before.before.bound-ok.ensures c.before.before.before.before.if2.false _ c.before.before.before.element-ok.ensures c.before.before.if3.false _ c.before.count-ok.ensures c.if4.false
 
 pub own-fault-spec : {M : Type 1} → statement M
 own-fault-spec =

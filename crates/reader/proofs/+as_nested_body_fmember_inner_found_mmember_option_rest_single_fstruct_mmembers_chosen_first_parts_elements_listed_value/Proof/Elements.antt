@@ -36,14 +36,11 @@ closed t =
     (λ c κs. search (rules, elements-laws))  -- stored-of-requires-2
     (λ c. search (rules, elements-laws))  -- cast-t26
     (λ c κs. search (rules, elements-laws))  -- put-row-requires
-    (λ c. row_next _ _ _ c.before.before.before.before.before.before.before.before.is-full.ensures c.before.before.before.before.before.before.before.if3.false c.before.before.before.before.before.before.before.before.before.before.before.before.before.before.before.before.before.before.before.before.well_formed.1.1.1.1.0.0)  -- add-t32
+    (λ c. row_next _ _ _ c.before.before.before.before.before.before.before.before.is-full.ensures c.before.before.before.before.before.before.before.if3.false c.before.before.before.before.before.before.before.before.before.before.before.before.before.before.before.before.before.before.before.before.well_formed.1.1.1.1.0.0)  -- add-as-nested
+    (λ c κs. search (rules, elements-laws))  -- as-nested-requires
     (λ c. search (rules, elements-laws))  -- same-length-2
     (λ c. search (rules, elements-laws))  -- returns-3
-    (λ c. row_next _ _ _ c.before.before.before.before.before.before.before.before.before.is-full.ensures c.before.before.before.before.before.before.before.before.if3.false c.before.before.before.before.before.before.before.before.before.before.before.before.before.before.before.before.before.before.before.before.before.well_formed.1.1.1.1.0.0)  -- add-as-nested
-    (λ c κs. search (rules, elements-laws))  -- as-nested-requires
-    (λ c. search (rules, elements-laws))  -- same-length-3
-    (λ c. search (rules, elements-laws))  -- returns-4
     (λ c κs. search (rules, elements-laws))  -- read-as-requires
     (λ c κs. search (rules, elements-laws))  -- plain-requires
-    (λ c. search (rules, elements-laws))  -- same-length-4
-    (λ c. search (rules, elements-laws))  -- returns-5
+    (λ c. search (rules, elements-laws))  -- same-length-3
+    (λ c. search (rules, elements-laws))  -- returns-4

@@ -12,7 +12,7 @@ same_length : tie.Need-same-length
 same_length c = search rules
 
 returns : tie.Need-returns
-returns c = search (rules, list_full)
+returns c = search (rules, list_full, list_rows)
 
 stored-of-requires : tie.Need-stored-of-requires
 stored-of-requires c κs = search rules
@@ -29,11 +29,11 @@ cast-t17 c = search rules
 put-row-requires : tie.Need-put-row-requires
 put-row-requires c κs = search (rules, full_fits)
 
-add-each : tie.Need-overflow-add-each
-add-each c = search (rules, row_next)
+add-elements : tie.Need-overflow-add-elements
+add-elements c = search (rules, row_next)
 
-each-requires : tie.Need-each-requires
-each-requires c κs = search rules
+elements-requires : tie.Need-elements-requires
+elements-requires c κs = search rules
 
 same-length-2 : tie.Need-same-length-2
 same-length-2 c = search rules
@@ -53,7 +53,7 @@ list-spec =
     stored-of-requires-2
     cast-t17
     put-row-requires
-    add-each
-    each-requires
+    add-elements
+    elements-requires
     same-length-2
     returns-2)

@@ -1,4 +1,4 @@
-use Rattle.values.proofs.Quickly.{is_free, number_so, quick_not, quick_kind, taken_boolean, taken_text, taken_number, none_taken}
+use Rattle.values.proofs.Quickly.{is_free, number_so, quick_not, quick_kind}
 use borrow.Author.Rules.{rules}
 use Rattle.values.proofs.quick.any_at.Statement.{statement}
 use Rattle.values.proofs.quick.any_at.Tie as tie
@@ -17,13 +17,13 @@ same_length : tie.Need-same-length
 same_length c = search rules
 
 returns : tie.Need-returns
-returns c = (search (rules, quick_not), λ h. none_taken _ _ (search rules) h)
+returns c = search (rules, is_free, quick_not, quick_kind)
 
 boolean-at-requires : tie.Need-boolean-at-requires
-boolean-at-requires c κs = search (rules, is_free)
+boolean-at-requires c κs = search (rules, is_free, quick_not, quick_kind)
 
 text-at-requires : tie.Need-text-at-requires
-text-at-requires c κs = search (rules, is_free)
+text-at-requires c κs = search (rules, is_free, quick_not, quick_kind)
 
 is-number-requires : tie.Need-is-number-requires
 is-number-requires c κs = search rules
@@ -47,25 +47,25 @@ same-length-2 : tie.Need-same-length-2
 same-length-2 c = search rules
 
 returns-2 : tie.Need-returns-2
-returns-2 c = (search rules, λ h. search (rules, taken_number))
+returns-2 c = search rules
 
 same-length-3 : tie.Need-same-length-3
 same-length-3 c = search rules
 
 returns-3 : tie.Need-returns-3
-returns-3 c = (search (rules, quick_kind), λ h. search (rules, taken_boolean))
+returns-3 c = search (rules, is_free, quick_not, quick_kind)
 
 same-length-4 : tie.Need-same-length-4
 same-length-4 c = search rules
 
 returns-4 : tie.Need-returns-4
-returns-4 c = (search (rules, quick_kind), λ h. search (rules, taken_text))
+returns-4 c = search (rules, is_free, quick_not, quick_kind)
 
 same-length-5 : tie.Need-same-length-5
 same-length-5 c = search rules
 
 returns-5 : tie.Need-returns-5
-returns-5 c = (search (rules, quick_not), λ h. none_taken _ _ (search rules) h)
+returns-5 c = search (rules, is_free, quick_not, quick_kind)
 
 pub any-at-spec : {M : Type 1} → statement M
 any-at-spec =

@@ -1,5 +1,5 @@
 use Rattle.values.proofs.Quickly.{quick_not, place_still}
-use Rattle.values.proofs.Lists.{quick_list, quick_listless}
+use Rattle.values.proofs.Lists.{quick_list, quick_listless, quick_counted, none_counted}
 use Rattle.values.proofs.Scalars.{row_next}
 use native.Mathlib.Omega.{arith}
 use borrow.Author.Rules.{rules}
@@ -56,13 +56,13 @@ same-length-4 : tie.Need-same-length-4
 same-length-4 c = search rules
 
 returns-4 : tie.Need-returns-4
-returns-4 c = (search (rules, quick_list), λ h. omega arith)
+returns-4 c = (search (rules, quick_list), search (rules, quick_counted))
 
 same-length-5 : tie.Need-same-length-5
 same-length-5 c = search rules
 
 returns-5 : tie.Need-returns-5
-returns-5 c = (search (rules, quick_listless), λ h. omega arith)
+returns-5 c = (search (rules, quick_listless), search (rules, none_counted))
 
 pub list-at-spec : {M : Type 1} → statement M
 list-at-spec =

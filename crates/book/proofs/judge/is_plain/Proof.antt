@@ -1,13 +1,13 @@
--- `book::right::is_plain`: the 14 bytes are there, and a "no" says nothing.
+-- `book::judge::is_plain`: the 14 bytes are there, and a "no" says nothing.
 use mathlib.Core.Path.{refl}
 use native.Mathlib.Omega.{arith}
 use lib.Dec.{lit<}
 use Rattle.ground.proofs.Tests.{apart}
 use Rattle.book.proofs.Places.{fits}
-use Rattle.book.proofs.Accepting.{plain_record}
+use Rattle.book.proofs.Rising.{plain_record}
 use borrow.Author.Rules.{rules}
-use Rattle.book.proofs.right.is_plain.Statement.{statement}
-use Rattle.book.proofs.right.is_plain.Tie as tie
+use Rattle.book.proofs.judge.is_plain.Statement.{statement}
+use Rattle.book.proofs.judge.is_plain.Tie as tie
 
 left-at-requires : tie.Need-left-at-requires
 left-at-requires c κs = search rules

@@ -1,9 +1,9 @@
--- `book::right::is_bare`: a "no" says nothing.
+-- `book::judge::is_bare`: a "no" says nothing.
 use Rattle.ground.proofs.Tests.{apart}
-use Rattle.book.proofs.Accepting.{bare_bytes}
+use Rattle.book.proofs.Rising.{bare_bytes}
 use borrow.Author.Rules.{rules}
-use Rattle.book.proofs.right.is_bare.Statement.{statement}
-use Rattle.book.proofs.right.is_bare.Tie as tie
+use Rattle.book.proofs.judge.is_bare.Statement.{statement}
+use Rattle.book.proofs.judge.is_bare.Tie as tie
 
 byte-there-requires : tie.Need-byte-there-requires
 byte-there-requires c κs = search rules
