@@ -14,6 +14,7 @@ import sys
 
 WORD = r'[^\s(){}.;,@"«»]+'
 DECLARED = re.compile(r"(?m)^ *(?:\w+ )*?(" + WORD + r")(?: \{[^{}\n]*\})* :(?= |$)")
+RULESET = re.compile(r"(?m)^ *(?:pub )?ruleset (" + WORD + r")")
 IMPORT = re.compile(r"\buse ([^\s;{]+)\.\{([^}]*)\}")
 BLOCK = re.compile(r"(?:requires|ensures)\s*\*?\s*(?:\w+\s*)?\{|ghost\s*(?:\w+\s*(?::\s*(?:(?:owns|lends)\s*)?|=\s*))?\{")
 SPAN = re.compile(r"`[^`\n]*`")
@@ -48,7 +49,7 @@ def table(root):
             continue
         with open(p, encoding="utf-8") as f:
             text = f.read()
-        for m in DECLARED.finditer(text):
+        for m in list(DECLARED.finditer(text)) + list(RULESET.finditer(text)):
             old[m[1]] = target(m[1])
             met[target(m[1])].add(m[1])
             if "/specs/" in p:

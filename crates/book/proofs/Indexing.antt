@@ -53,7 +53,7 @@ indexing_end b t u n i p c y x h f g k =
     let r : drop n u ≡ drop n t = rw d at x.kept in
     sym (take-append-drop n u) ∙ (rw (l, r, e))
 
-pub ruleset indexing-laws = (indexing_start, indexing_more, indexing_end)
+pub ruleset indexing_laws = (indexing_start, indexing_more, indexing_end)
 
 -- THE PLACES SPELL THE TYPES, for any bytes
 pub places_spell : (b : List ℕ) (p n : ℕ) → types_by b (places_from b p n) ≡ types_from n (from b p)

@@ -63,7 +63,7 @@ module _ (b : List ℕ) (f : Member → Bool) (ms : Run) (whole : Bool) (inv : e
   unfolding every
   every_end h = rw (run_none b ms h) at inv
 
-pub ruleset every-laws = (every_bad, every_turn, every_end)
+pub ruleset every_laws = (every_bad, every_turn, every_end)
 
 -- the members before one
 pub before_is : (b : List ℕ) (at p n : ℕ) → Skipped b at 14 p → listed b (run p n) ≡ earlier b at n

@@ -84,7 +84,7 @@ module _ (d : ℤ) (b : List ℕ) (ms : Run) (whole : Option Member) (inv : firs
   unfolding first_with
   first_end = where_end (λ m. is_in d m.labels) b ms whole inv
 
-pub ruleset first-laws = (first_start, first_found, first_turn, first_end)
+pub ruleset first_laws = (first_start, first_found, first_turn, first_end)
 
 -- the last default
 pub or_none : (o : Option Member) → or_else o none ≡ o
@@ -126,4 +126,4 @@ module _ (b : List ℕ) (before : Found) (ms : Run) (whole : Option Member) (inv
   unfolding last_or or_else last_default
   last_end h = rw (run_none b ms h) at inv
 
-pub ruleset last-laws = (last_start, last_turn, last_end)
+pub ruleset last_laws = (last_start, last_turn, last_end)

@@ -61,7 +61,7 @@ module _ (k : ℕ) (t : BookType) (c : Bool) (e : c ≡ codes_ok t) where
         unfolding unless ◌then◌
         own_kept z = rw (own_rules k t, ← e, not-false c y, ← f, not-false o x, ← g, not-false l w, ← h, not-false n z)
 
-pub ruleset own-laws = (own_codes, own_bounds, own_element, own_count, own_kept)
+pub ruleset own_laws = (own_codes, own_bounds, own_element, own_count, own_kept)
 
 -- A MEMBER. A rule that is asked of a union's first alone: the code asks whether it is broken
 broken_first : (first kept : Bool) → (first && not kept) ≡ true → (not first || kept) ≡ false
@@ -210,7 +210,7 @@ module _ (types : List BookType) (k : ℕ) (t : BookType) (before : List Member)
                   unfolding unless ◌then◌
                   member_kept z = rw (past₆, kept₇, kept₈, rule₉ true (kept_first first (eqb n 0) z))
 
-pub ruleset member-laws =
+pub ruleset member_laws =
     (member_id, member_first_id, member_link, member_first_kind, member_flags, member_first_default, member_construct, member_labels, member_first_label, member_kept)
 
 -- THE MEMBERS. `done` of them are passed, their ids are below top; the run has the others, with so many bytes
@@ -279,7 +279,7 @@ module _ (b : List ℕ) (types : List BookType) (at k done top room : ℕ) (whol
   unfolding members_fault unless
   walk_end h l = rw (run_none b ms h, eq-eqb room 0 (omega arith)) at x.still
 
-pub ruleset walk-laws = (walk_start, walk_past, walk_bad, walk_turn, walk_left, walk_end)
+pub ruleset walk_laws = (walk_start, walk_past, walk_bad, walk_turn, walk_left, walk_end)
 
 -- A RECORD
 module _ (types : List BookType) (b : List ℕ) (at k size l : ℕ) (e : size ≡ pair (from b at) 0) (d : l ≡ length (from b at)) where
@@ -303,7 +303,7 @@ module _ (types : List BookType) (b : List ℕ) (at k size l : ℕ) (e : size �
       pub record_members : (f : Fault) → not t ≡ false → f ≡ members_at b types at k (size - 14) → f ≡ record_fault types k (from b at)
       record_members f z m = m ∙ sym (goes_on own (members_at b types at k (size - 14)) t r z) ∙ inside
 
-pub ruleset record-laws = (record_past, record_small, record_own, record_members)
+pub ruleset record_laws = (record_past, record_small, record_own, record_members)
 
 -- THE RECORDS: k of n are passed
 pub records_start : (b : List ℕ) (types : List BookType) (n : ℕ) → records_fault types 0 (n - 0) (from b 7) ≡ records_fault types 0 n (from b 7)
@@ -338,7 +338,7 @@ module _ (b : List ℕ) (types : List BookType) (n k p : ℕ) (whole : Fault) (i
     unfolding records_fault unless
     records_end g = rw (none, ← e, eq-eqb l 0 (omega arith)) at inv
 
-pub ruleset records-laws = (records_start, records_bad, records_turn, records_left, records_end)
+pub ruleset records_laws = (records_start, records_bad, records_turn, records_left, records_end)
 
 -- THE BOOK
 module _ (b : List ℕ) (h : Bool) (e : h ≡ head_ok b) where
@@ -366,4 +366,4 @@ module _ (b : List ℕ) (h : Bool) (e : h ≡ head_ok b) where
     pub records_places : u ≡ pick (head_ok b) (indexed b t) t
     records_places = rw good g
 
-pub ruleset judged-laws = (head_told, head_places, records_told, records_places)
+pub ruleset judged_laws = (head_told, head_places, records_told, records_places)

@@ -3,7 +3,7 @@ ghost use Rattle.std.specs.Prelude.{◌≡◌};
 ghost use Rattle.book.specs.Fault.{reason_number, is_right, fault_number};
 
 // "head, record length, code out of range, type link, bound, member list, union's first member"
-#[derive(Drop)]
+#[derive(Clone, Copy)]
 pub enum Reason {
     Head,
     RecordLength,
@@ -15,7 +15,7 @@ pub enum Reason {
 }
 
 // Nothing is wrong; or this record, "65,535 for the book's head", by this reason.
-#[derive(Drop)]
+#[derive(Clone, Copy)]
 pub enum Fault {
     Nothing,
     In(usize, Reason),

@@ -8,7 +8,7 @@ ghost use Rattle.book.specs.Labels.{is_in, or_else, when, first_with, last_defau
 use crate::member::{after, is_default, label, label_count, members};
 
 // The place of a member, where there is one.
-#[derive(Drop)]
+#[derive(Clone, Copy)]
 pub enum Found {
     At(usize),
     Nothing,

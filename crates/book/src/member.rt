@@ -9,7 +9,7 @@ use crate::bytes::{byte_at, byte_there, is_there, pair_at, pair_there, quad_at, 
 pub const LAST: usize = 8;
 
 // Members still to come: where the next stands, and how many are left.
-#[derive(Drop)]
+#[derive(Clone, Copy)]
 pub struct Run {
     pub at: usize,
     pub left: usize,
@@ -69,7 +69,7 @@ pub fn after(b: &[u8], ms: Run) -> Run
 }
 
 // What is asked of every member that is read in turn.
-#[derive(Drop)]
+#[derive(Clone, Copy)]
 pub struct Head {
     pub id: u32,
     pub ty: usize,

@@ -7,13 +7,13 @@ use sinotayam::answer::Answer;
 use wire::settings::Mode;
 
 // The book's size, the root, and the message's size.
-#[derive(Drop)]
+#[derive(Clone, Copy)]
 pub enum Input {
     Case(usize, usize, usize),
     Wrong,
 }
 
-#[derive(Drop)]
+#[derive(Clone, Copy)]
 pub enum Reply {
     Given(Answer),
     Wrong,

@@ -37,7 +37,7 @@ module _ (b : List ℕ) (ms : Run) (whole : Option Member) (inv : first_default 
   unfolding first_default
   default_end = where_end default b ms whole inv
 
-pub ruleset default-laws = (default_start, default_found, default_turn, default_end)
+pub ruleset default_laws = (default_start, default_found, default_turn, default_end)
 
 -- the default value
 label_first : (ls : List ℤ) → get_or ls 0 (pos 0) ≡ first_label ls

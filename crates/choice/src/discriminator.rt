@@ -21,7 +21,7 @@ const UINT8: u64 = 13;
 // The kind of an enum's own row.
 const ENUM: u64 = 21;
 
-#[derive(Drop)]
+#[derive(Clone, Copy)]
 pub enum Discriminator {
     // It was not stored.
     Absent,

@@ -12,7 +12,7 @@ use Rattle.book.specs.declared.member.Run.{Run}
 use Rattle.book.specs.Types.{BookType, Member, bounded, type_no}
 use Rattle.book.specs.Places.{member_at, type_at, types_by, listed, Started, PlaceOf}
 use Rattle.book.proofs.Places.{run_more, run_none}
-use Rattle.book.proofs.Judging.{every-laws}
+use Rattle.book.proofs.Judging.{every_laws}
 use Rattle.fit.specs.Fit.{member_supported, members_supported, element_supported, base_supported, chooses, first_chooses, discriminator_fits, check_clauses, meets}
 use Rattle.fit.specs.Ids.{ids_fit, clauses_for}
 
@@ -35,7 +35,7 @@ pub members_start : (types : List BookType) (b : List ℕ) (at kind : ℕ) (ms :
 unfolding members_supported
 members_start types b at kind ms is n s = rw (← is, ne_eqb kind 21 n, s.is)
 
-pub ruleset members-laws = (members_enum, members_start, every-laws)
+pub ruleset members_laws = (members_enum, members_start, every_laws)
 
 -- ---- an element
 module _ (types : List BookType) (t : BookType) (kind : ℕ) (is : kind ≡ t.kind) where

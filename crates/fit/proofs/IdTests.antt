@@ -49,7 +49,7 @@ module _ (b : List ℕ) (ms : Run) (whole : Bool) (inv : low_differ (listed b ms
   unfolding low_differ
   differ_end h = rw (run_none b ms h) at inv
 
-pub ruleset differ-laws = (differ_bad, differ_turn, differ_end)
+pub ruleset differ_laws = (differ_bad, differ_turn, differ_end)
 
 -- ---- one type
 module _ (b : List ℕ) (at kind : ℕ) (is : kind ≡ (type_at b at).kind) where
@@ -66,7 +66,7 @@ module _ (b : List ℕ) (at kind : ℕ) (is : kind ≡ (type_at b at).kind) wher
     unfolding has_headers is_structure is_mutable
     headers_optional e ms r s f = rw (← is, h, ← mutable, e, ← s.is, ← f)
 
-pub ruleset headers-laws = (headers_none, headers_mutable, headers_optional)
+pub ruleset headers_laws = (headers_none, headers_mutable, headers_optional)
 
 module _ (b : List ℕ) (at : ℕ) (only : Bool) (r : Bool) (headers : r ≡ has_headers (type_at b at)) where
   pub ids_none : not r ≡ true → (types : List BookType) → true ≡ ids_fit only types (type_at b at)
@@ -88,4 +88,4 @@ module _ (b : List ℕ) (at : ℕ) (only : Bool) (r : Bool) (headers : r ≡ has
         let g : d ≡ low_differ (type_at b at).members = f ∙ ap low_differ n.is in
         rw (← headers, not-false r some, ← s.is, ← each, not-false e h, o, s.is, ← g)
 
-pub ruleset ids-laws = (ids_none, ids_bad, ids_only, ids_any)
+pub ruleset ids_laws = (ids_none, ids_bad, ids_only, ids_any)

@@ -50,7 +50,7 @@ module _ (lower b : List ℕ) (m whole : ℕ) (ms : Run) (inv : longest_from low
   unfolding longest_from member_types
   longest_end h = rw (run_none b ms h) at inv
 
-pub ruleset longest-laws = (longest_list, longest_enum, longest_start, longest_turn, longest_end)
+pub ruleset longest_laws = (longest_list, longest_enum, longest_start, longest_turn, longest_end)
 
 -- the longest chain from a type
 module _ (clauses : List Clause) (types : List BookType) (lower : List ℕ) (t : BookType) (good : Bool) (met : good ≡ meets clauses types t) where

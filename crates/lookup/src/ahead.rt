@@ -12,7 +12,7 @@ use wire::cursor::{Cursor, Place, Shortage};
 use wire::number::from_bytes;
 use wire::settings::{Settings, Version};
 
-#[derive(Drop)]
+#[derive(Clone, Copy)]
 pub struct Ahead {
     // Where the value starts; 0: the header there is not the wanted one, its value is empty in XCDR1, or something is missing.
     pub value: usize,
@@ -130,7 +130,7 @@ pub fn value_at(version: Version, pos: usize, origin: usize) -> Cursor
 
 // Where the next header is looked for: a search for an id from `least` on, from the structure's start, is a search from `next`, if a
 // header stands there.
-#[derive(Drop)]
+#[derive(Clone, Copy)]
 pub struct Hint {
     pub next: usize,
     pub least: u32,
@@ -161,7 +161,7 @@ fn first_hint(s: &[u8], back: Cursor) -> Hint
     hint_at(pos)
 }
 
-#[derive(Drop)]
+#[derive(Clone, Copy)]
 pub enum Start {
     // The place that every lookup comes back to, and the hint before any member was found.
     From(Cursor, Hint),

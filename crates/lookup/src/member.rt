@@ -6,7 +6,7 @@ use crate::search::Seek;
 use wire::cursor::{Cursor, Place, Shortage};
 use wire::settings::{Settings, Version};
 
-#[derive(Drop)]
+#[derive(Clone, Copy)]
 pub enum Located {
     // The value's length, where it is read, and where the reading comes back to.
     Found(u64, Cursor, Cursor),

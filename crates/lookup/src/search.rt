@@ -5,7 +5,7 @@ ghost use Rattle.lookup.specs.Search.{past_value};
 use wire::cursor::{Cursor, Place, Shortage};
 use wire::settings::Settings;
 
-#[derive(Drop)]
+#[derive(Clone, Copy)]
 pub enum Seek {
     // The value's length, and where it starts.
     Found(u64, Cursor),
@@ -15,7 +15,7 @@ pub enum Seek {
 }
 
 // One header settles the search, or the next one is at the cursor.
-#[derive(Drop)]
+#[derive(Clone, Copy)]
 pub enum Turn {
     Done(Seek),
     On(Cursor),

@@ -9,7 +9,7 @@ use wire::settings::Settings;
 
 pub const PID_LIST_END: u64 = 0x3F02;
 
-#[derive(Drop)]
+#[derive(Clone, Copy)]
 enum Header {
     // The id, the length, and the cursor after both.
     Got(u64, u64, Cursor),

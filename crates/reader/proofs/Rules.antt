@@ -11,36 +11,36 @@ use Rattle.reader.proofs.LookedSteps.{mstruct_short, mstruct_members, mstruct_hi
 use Rattle.reader.proofs.UnionSteps.{chosen_absent, chosen_unfit, chosen_none, chosen_looked, chosen_plain, union_empty, union_short, union_refused, union_read, discriminator_looked, discriminator_plain}
 use Rattle.reader.proofs.NestedSteps.{body_enum, body_short, body_past, body_mstruct, body_fell, body_refused, body_there, body_rest, members_structure, members_union}
 
-pub ruleset as-nested-laws = (run_start, run_end)
+pub ruleset as_nested_laws = (run_start, run_end)
 
-pub ruleset body-laws = (body_enum, body_short, body_past, body_mstruct, body_fell, body_refused, body_there, body_rest, mstruct_short, mstruct_members, mstruct_hint)
+pub ruleset body_laws = (body_enum, body_short, body_past, body_mstruct, body_fell, body_refused, body_there, body_rest, mstruct_short, mstruct_members, mstruct_hint)
 
 pub ruleset inner_laws = (members_structure, members_union)
 
-pub ruleset fstruct-laws = (fmembers_start, fmembers_end)
+pub ruleset fstruct_laws = (fmembers_start, fmembers_end)
 
-pub ruleset mmembers-laws = (row_next)
+pub ruleset mmembers_laws = (row_next)
 
 pub ruleset parts_laws = (union_empty, union_short, union_refused, union_read)
 
-pub ruleset first-laws = (discriminator_looked, discriminator_plain)
+pub ruleset first_laws = (discriminator_looked, discriminator_plain)
 
-pub ruleset chosen-laws = (fmember_optional, fmember_value, chosen_absent, chosen_unfit, chosen_none, chosen_looked, chosen_plain)
+pub ruleset chosen_laws = (fmember_optional, fmember_value, chosen_absent, chosen_unfit, chosen_none, chosen_looked, chosen_plain)
 
-pub ruleset single-laws = (tt)
+pub ruleset single_laws = (tt)
 
-pub ruleset fmember-laws = (tt)
+pub ruleset fmember_laws = (tt)
 
-pub ruleset rest-laws = (fmember_optional, fmember_value, list_taken, list_left)
+pub ruleset rest_laws = (fmember_optional, fmember_value, list_taken, list_left)
 
-pub ruleset option-laws = (optional_looked, optional_short, optional_bad, optional_absent, optional_present)
+pub ruleset option_laws = (optional_looked, optional_short, optional_bad, optional_absent, optional_present)
 
-pub ruleset mmember-laws = (mmember_short, mmember_absent, mmember_read, mmember_fell, mmember_refused)
+pub ruleset mmember_laws = (mmember_short, mmember_absent, mmember_read, mmember_fell, mmember_refused)
 
-pub ruleset found-laws = (found_opens, found_length, found_value_law)
+pub ruleset found_laws = (found_opens, found_length, found_value_law)
 
-pub ruleset value-laws = (value_none, value_unsupported, value_nested, value_list, value_taken, value_left, quick_next)
+pub ruleset value_laws = (value_none, value_unsupported, value_nested, value_list, value_taken, value_left, quick_next)
 
-pub ruleset listed-laws = (list_short, list_past, list_uncounted, list_there, list_rest)
+pub ruleset listed_laws = (list_short, list_past, list_uncounted, list_there, list_rest)
 
-pub ruleset elements-laws = (elements_unsupported, elements_full, elements_opened, elements_plain, full_fits, row_next)
+pub ruleset elements_laws = (elements_unsupported, elements_full, elements_opened, elements_plain, full_fits, row_next)

@@ -9,7 +9,7 @@ use table::rows::clear_after;
 use wire::cursor::Told;
 
 // Document 01's "Numbers given back", without 4, which no call gives back, and with order 2's reasons for a book. A reading with an index of no types is NotPrepared.
-#[derive(Drop)]
+#[derive(Clone, Copy)]
 pub enum Status {
     Read,
     NotEnoughData,
@@ -27,7 +27,7 @@ pub enum Status {
     BadBook(Reason),
 }
 
-#[derive(Drop)]
+#[derive(Clone, Copy)]
 pub struct Answer {
     pub status: Status,
     pub rows: usize,

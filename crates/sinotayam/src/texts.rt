@@ -12,7 +12,7 @@ const STRING8: u64 = 16;
 const STRING16: u64 = 17;
 
 // Where a text stands in the data: its start, and how many bytes.
-#[derive(Drop)]
+#[derive(Clone, Copy)]
 pub enum Span {
     At(usize, usize),
     Nothing,

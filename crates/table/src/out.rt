@@ -2,7 +2,7 @@
 use wire::cursor::{Cursor, Shortage};
 
 // Why a reading is refused, but for too few bytes. The first two are the Rust's.
-#[derive(Drop)]
+#[derive(Clone, Copy)]
 pub enum Refusal {
     InvalidData,
     InvalidType,
@@ -13,7 +13,7 @@ pub enum Refusal {
 }
 
 // The place after the value and the number of rows that then stand in the table; too few bytes; or a refusal.
-#[derive(Drop)]
+#[derive(Clone, Copy)]
 pub enum Out {
     Read(Cursor, usize),
     Short(Shortage),

@@ -3,7 +3,7 @@ ghost use Rattle.std.specs.Prelude.{◌≡◌, ◌+◌, ◌*◌, ◌≤◌, leng
 ghost use Rattle.table.specs.Rows.{width, no_room, row_at};
 ghost use Rattle.table.specs.Code.Rows.{put_row, counting, cleared_from};
 
-#[derive(Drop)]
+#[derive(Clone, Copy)]
 pub struct Row {
     pub kind: u64,
     pub id: u64,

@@ -65,7 +65,7 @@ module _ (s : List ℕ) (set : Settings) (c : Cursor) (r : Number) (read : ReadI
     pub string_empty : n ≡ 0 → t ≡ bytes_here s d 0 → t ≡ string_type s set c
     string_empty z f = string_got (rw z f)
 
-pub ruleset string-laws = (string_short, string_got, string_empty)
+pub ruleset string_laws = (string_short, string_got, string_empty)
 
 -- what the units to come give in this state
 unfoldable pub resumed : State → ℕ → ℕ → Units → Text
@@ -124,7 +124,7 @@ module _ (s : List ℕ) (set : Settings) (c : Cursor) (st : State) (start n : �
     unfolding resumed rest_good
     units_bad e = rw e at none_left
 
-pub ruleset units-laws = (units_start, units_short, unit_fits, units_turn, units_whole, units_half, units_bad)
+pub ruleset units_laws = (units_start, units_short, unit_fits, units_turn, units_whole, units_half, units_bad)
 
 -- the length of a STRING16
 module _ (s : List ℕ) (set : Settings) (c : Cursor) (r : Number) (read : ReadIs s set c 4 r) where
@@ -145,4 +145,4 @@ module _ (s : List ℕ) (set : Settings) (c : Cursor) (r : Number) (read : ReadI
     unfolding wstring_type after_number wide_here
     wstring_units t z o f = rw (sym read.is ∙ e, ne_eqb n 0 z, ne_eqb (n % 2) 1 o) f
 
-pub ruleset wstring-laws = (wstring_short, wstring_empty, wstring_odd, wstring_units)
+pub ruleset wstring_laws = (wstring_short, wstring_empty, wstring_odd, wstring_units)

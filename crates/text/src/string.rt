@@ -9,7 +9,7 @@ use wire::cursor::{Cursor, Place, Shortage};
 use wire::number::Number;
 use wire::settings::Settings;
 
-#[derive(Drop)]
+#[derive(Clone, Copy)]
 pub enum Text {
     // The start in the data, how many bytes or units, and the cursor past them.
     Got(usize, usize, Cursor),

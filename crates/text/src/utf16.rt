@@ -3,7 +3,7 @@ ghost use Rattle.std.specs.Prelude.{◌≡◌, List, ◌∷◌, ℕ};
 ghost use Rattle.text.specs.Code.Step.{good_from};
 
 // Where a check stands after some units: between characters, inside a pair, or past a fault.
-#[derive(Drop)]
+#[derive(Clone, Copy)]
 pub enum State {
     Whole,
     Half,

@@ -5,7 +5,7 @@ ghost use Rattle.text.specs.Unicode.{utf8, ranges};
 ghost use Rattle.text.specs.Code.Sequence.{range_of, Row, row_length, Passed};
 
 // A column of a line of the table: In(0xA0, 0xBF) is the standard's A0..BF.
-#[derive(Drop)]
+#[derive(Clone, Copy)]
 pub struct In(pub u8, pub u8);
 
 impl In {

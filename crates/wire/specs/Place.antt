@@ -20,13 +20,13 @@ abbrev pub shortage : Cursor → ℕ → ℕ → Shortage
 shortage c position need = record { at = c; told = record { position = position; need = need } }
 
 -- a number as a word holds it: itself, or the most that there is. A need of data of 65,532 bytes is never cut (crates/fit/proofs/Told.antt, `reading_told`)
-abbrev pub in_aWord : ℕ → ℕ
-in_aWord n = min n (2 ^ 64 - 1)
+abbrev pub in_a_word : ℕ → ℕ
+in_a_word n = min n (2 ^ 64 - 1)
 
 -- order 6: "The need is position plus bytes wanted minus data length (in order 1's mode, minus the end crossed)": where ends are kept, the data that is
 -- read from ends there
 abbrev pub need_at : List ℕ → ℕ → ℕ → ℕ
-need_at s position wanted = in_aWord (position + wanted - length s)
+need_at s position wanted = in_a_word (position + wanted - length s)
 
 -- "Each primitive read that runs short must tell its position and the bytes it still needed"; document 01: "Refusals keep the position reached."
 abbrev pub short_at : List ℕ → Cursor → ℕ → Shortage

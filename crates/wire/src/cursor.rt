@@ -1,25 +1,25 @@
 // Where a reading stands in the data, and how it moves. Nothing is required of a position, an origin or a length: each test stands
 // before the sum that it allows, so nothing wraps, past the end too.
 ghost use Rattle.std.specs.Prelude.{◌≡◌, ◌+◌, ◌-◌, ◌<◌, ◌≤◌, length};
-ghost use Rattle.wire.specs.Place.{cursor_at, brought_back, in_aWord, alignment_of, gap_of, padding_of, seek_to, align_to};
+ghost use Rattle.wire.specs.Place.{cursor_at, brought_back, in_a_word, alignment_of, gap_of, padding_of, seek_to, align_to};
 
 use crate::settings::Version;
 
-#[derive(Drop)]
+#[derive(Clone, Copy)]
 pub struct Cursor {
     pub pos: usize,
     pub origin: usize,
 }
 
 // What is told of a read that ran short: where it began, and the bytes that it still needed.
-#[derive(Drop)]
+#[derive(Clone, Copy)]
 pub struct Told {
     pub position: usize,
     pub need: usize,
 }
 
 // A read that ran short: where the reading stands, and what is told. Whoever meets one passes it on whole.
-#[derive(Drop)]
+#[derive(Clone, Copy)]
 pub struct Shortage {
     pub at: Cursor,
     pub told: Told,
@@ -36,7 +36,7 @@ impl Shortage {
     }
 }
 
-#[derive(Drop)]
+#[derive(Clone, Copy)]
 pub enum Place {
     At(Cursor),
     Short(Shortage),
@@ -116,7 +116,7 @@ const MOST: usize = 18446744073709551615;
 
 // The bytes of n from `pos` on that the data of so many lacks, or the most that a word holds: 0 where it has them all.
 fn lack(pos: usize, n: usize, end: usize) -> usize
-    ensures { result ≡ in_aWord (pos + n - end) }
+    ensures { result ≡ in_a_word (pos + n - end) }
 {
     if end < pos {
         if MOST - (pos - end) < n {

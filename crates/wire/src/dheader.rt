@@ -7,7 +7,7 @@ use crate::cursor::{Cursor, Shortage};
 use crate::number::{Number, from_bytes, read_number};
 use crate::settings::{Settings, Version};
 
-#[derive(Drop)]
+#[derive(Clone, Copy)]
 pub enum Contents {
     // Where they begin, and where they end; where ends are not kept, that may be past the end of the data.
     Between(Cursor, usize),

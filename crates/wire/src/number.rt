@@ -8,20 +8,20 @@ use crate::cursor::{Cursor, Place, Shortage};
 use crate::settings::{ByteOrder, Settings};
 use kinds::names::{BOOLEAN, FLOAT128};
 
-#[derive(Drop)]
+#[derive(Clone, Copy)]
 pub enum Number {
     Got(u64, Cursor),
     Short(Shortage),
 }
 
 // The low half of the number, then the high half.
-#[derive(Drop)]
+#[derive(Clone, Copy)]
 pub enum Float128 {
     Got(u64, u64, Cursor),
     Short(Shortage),
 }
 
-#[derive(Drop)]
+#[derive(Clone, Copy)]
 pub enum Boolean {
     Got(bool, Cursor),
     Bad,

@@ -4,26 +4,26 @@ ghost use Rattle.wire.specs.Identifier.{settings_of};
 ghost use Rattle.wire.specs.Ends.{keeps_ends};
 ghost use Rattle.wire.specs.Code.Strings.{same_bytes};
 
-#[derive(Drop)]
+#[derive(Clone, Copy)]
 pub enum ByteOrder {
     BigEndian,
     LittleEndian,
 }
 
-#[derive(Drop)]
+#[derive(Clone, Copy)]
 pub enum Version {
     Xcdr1,
     Xcdr2,
 }
 
 // Whose reading of XCDR2 is wanted: the crate's, or the one that the standard gives. XCDR1 is alike in both.
-#[derive(Drop)]
+#[derive(Clone, Copy)]
 pub enum Mode {
     Crate,
     Standard,
 }
 
-#[derive(Drop)]
+#[derive(Clone, Copy)]
 pub struct Settings {
     pub order: ByteOrder,
     pub version: Version,
@@ -47,7 +47,7 @@ impl Settings {
     }
 }
 
-#[derive(Drop)]
+#[derive(Clone, Copy)]
 pub enum Representation {
     Known(Settings),
     Unknown,

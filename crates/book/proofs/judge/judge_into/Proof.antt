@@ -1,5 +1,5 @@
 -- `book::judge::judge_into`: the head, then the records by the index that it leaves, which spells the types.
-use Rattle.book.proofs.Telling.{judged-laws}
+use Rattle.book.proofs.Telling.{judged_laws}
 use borrow.Author.Rules.{rules}
 use Rattle.book.proofs.judge.judge_into.Statement.{statement}
 use Rattle.book.proofs.judge.judge_into.Tie as tie
@@ -8,7 +8,7 @@ head-ok-requires : tie.Need-head-ok-requires
 head-ok-requires c κs = search rules
 
 returns : tie.Need-returns
-returns c = search (rules, judged-laws)
+returns c = search (rules, judged_laws)
 
 index-requires : tie.Need-index-requires
 index-requires c κs = search rules
@@ -29,7 +29,7 @@ same_length : tie.Need-same-length
 same_length c = search rules
 
 returns-2 : tie.Need-returns-2
-returns-2 c = search (rules, judged-laws)
+returns-2 c = search (rules, judged_laws)
 
 pub judge-into-spec : {M : Type 1} → statement M
 judge-into-spec =

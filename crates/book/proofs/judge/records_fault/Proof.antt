@@ -4,7 +4,7 @@ use Prim.Native.Nat.{◌-◌}
 use lib.ListN.{length}
 use Rattle.book.specs.Places.{from, types_by}
 use Rattle.book.specs.Fault.{records_fault}
-use Rattle.book.proofs.Telling.{records-laws}
+use Rattle.book.proofs.Telling.{records_laws}
 use borrow.Author.Rules.{rules}
 use Rattle.book.proofs.judge.records_fault.Statement.{statement}
 use Rattle.book.proofs.judge.records_fault.Tie as tie
@@ -16,40 +16,40 @@ abbrev decreases-loop : tie.decreases-loop
 decreases-loop b index k₀ p₀ k p = length index - k
 
 loop-holds : tie.Need-loop-init invariant-loop decreases-loop
-loop-holds c = search (rules, records-laws)
+loop-holds c = search (rules, records_laws)
 
 record-fault-requires : tie.Need-record-fault-requires invariant-loop decreases-loop
-record-fault-requires c κs = search (rules, records-laws)
+record-fault-requires c κs = search (rules, records_laws)
 
 is-right-requires : tie.Need-is-right-requires invariant-loop decreases-loop
-is-right-requires c κs = search (rules, records-laws)
+is-right-requires c κs = search (rules, records_laws)
 
 returns : tie.Need-returns invariant-loop decreases-loop
-returns c = search (rules, records-laws)
+returns c = search (rules, records_laws)
 
 pair-at-requires : tie.Need-pair-at-requires invariant-loop decreases-loop
-pair-at-requires c κs = search (rules, records-laws)
+pair-at-requires c κs = search (rules, records_laws)
 
 skip-requires : tie.Need-skip-requires invariant-loop decreases-loop
-skip-requires c κs = search (rules, records-laws)
+skip-requires c κs = search (rules, records_laws)
 
 add-k : tie.Need-overflow-add-k invariant-loop decreases-loop
-add-k c = search (rules, records-laws)
+add-k c = search (rules, records_laws)
 
 loop-less : tie.Need-loop-smaller invariant-loop decreases-loop
-loop-less c = search (rules, records-laws)
+loop-less c = search (rules, records_laws)
 
 loop-again : tie.Need-loop-preserved invariant-loop decreases-loop
-loop-again c = search (rules, records-laws)
+loop-again c = search (rules, records_laws)
 
 left-at-requires : tie.Need-left-at-requires invariant-loop decreases-loop
-left-at-requires c κs = search (rules, records-laws)
+left-at-requires c κs = search (rules, records_laws)
 
 returns-2 : tie.Need-returns-2 invariant-loop decreases-loop
-returns-2 c = search (rules, records-laws)
+returns-2 c = search (rules, records_laws)
 
 returns-3 : tie.Need-returns-3 invariant-loop decreases-loop
-returns-3 c = search (rules, records-laws)
+returns-3 c = search (rules, records_laws)
 
 pub records-fault-spec : {M : Type 1} → statement M
 records-fault-spec =

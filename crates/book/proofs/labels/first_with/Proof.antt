@@ -1,6 +1,6 @@
 -- `book::labels::first_with`. The invariant: the first of the run that holds the label is the first of all.
 use borrow.Author.Rules.{rules}
-use Rattle.book.proofs.Search.{first_bits, first-laws}
+use Rattle.book.proofs.Search.{first_bits, first_laws}
 use mathlib.Core.Path.{◌≡◌}
 use mir.Syntax.{w32}
 use mir.Val.{to_z}
@@ -16,28 +16,28 @@ abbrev decreases-loop : tie.decreases-loop
 decreases-loop b at d ms₀ ms = ms.left
 
 members-requires : tie.Need-members-requires invariant-loop decreases-loop
-members-requires c κs = search (rules, first-laws)
+members-requires c κs = search (rules, first_laws)
 
 loop-holds : tie.Need-loop-init invariant-loop decreases-loop
-loop-holds c = search (rules, first-laws)
+loop-holds c = search (rules, first_laws)
 
 holds-requires : tie.Need-holds-requires invariant-loop decreases-loop
-holds-requires c κs = search (rules, first-laws)
+holds-requires c κs = search (rules, first_laws)
 
 returns : tie.Need-returns invariant-loop decreases-loop
-returns c = search (rules, first_bits, first-laws)
+returns c = search (rules, first_bits, first_laws)
 
 after-requires : tie.Need-after-requires invariant-loop decreases-loop
-after-requires c κs = search (rules, first-laws)
+after-requires c κs = search (rules, first_laws)
 
 loop-less : tie.Need-loop-smaller invariant-loop decreases-loop
-loop-less c = search (rules, first-laws)
+loop-less c = search (rules, first_laws)
 
 loop-again : tie.Need-loop-preserved invariant-loop decreases-loop
-loop-again c = search (rules, first-laws)
+loop-again c = search (rules, first_laws)
 
 returns-2 : tie.Need-returns-2 invariant-loop decreases-loop
-returns-2 c = search (rules, first_bits, first-laws)
+returns-2 c = search (rules, first_bits, first_laws)
 
 pub first-with-spec : {M : Type 1} → statement M
 first-with-spec =

@@ -3,7 +3,7 @@ use borrow.Author.Rules.{rules}
 use mathlib.Core.Path.{◌≡◌}
 use Rattle.ground.specs.Choice.{every}
 use Rattle.book.specs.Places.{listed}
-use Rattle.book.proofs.Judging.{every-laws}
+use Rattle.book.proofs.Judging.{every_laws}
 use Rattle.fit.specs.Ids.{id_fits}
 use Rattle.fit.proofs.ids.each_fits.Statement.{statement}
 use Rattle.fit.proofs.ids.each_fits.Tie as tie
@@ -15,25 +15,25 @@ abbrev decreases-loop : tie.decreases-loop
 decreases-loop book only rest₀ rest = rest.left
 
 loop-holds : tie.Need-loop-init invariant-loop decreases-loop
-loop-holds c = search (rules, every-laws)
+loop-holds c = search (rules, every_laws)
 
 id-fits-requires : tie.Need-id-fits-requires invariant-loop decreases-loop
-id-fits-requires c κs = search (rules, every-laws)
+id-fits-requires c κs = search (rules, every_laws)
 
 returns : tie.Need-returns invariant-loop decreases-loop
-returns c = search (rules, every-laws)
+returns c = search (rules, every_laws)
 
 after-requires : tie.Need-after-requires invariant-loop decreases-loop
-after-requires c κs = search (rules, every-laws)
+after-requires c κs = search (rules, every_laws)
 
 loop-less : tie.Need-loop-smaller invariant-loop decreases-loop
-loop-less c = search (rules, every-laws)
+loop-less c = search (rules, every_laws)
 
 loop-again : tie.Need-loop-preserved invariant-loop decreases-loop
-loop-again c = search (rules, every-laws)
+loop-again c = search (rules, every_laws)
 
 returns-2 : tie.Need-returns-2 invariant-loop decreases-loop
-returns-2 c = search (rules, every-laws)
+returns-2 c = search (rules, every_laws)
 
 pub each-fits-spec : {M : Type 1} → statement M
 each-fits-spec =

@@ -23,7 +23,7 @@ use Rattle.table.proofs.rows.is_full.Reads as is-full-reads
 use Rattle.table.proofs.rows.put_beneath.Reads as put-beneath-reads
 use Rattle.table.proofs.rows.put_row.Reads as put-row-reads
 use Rattle.wire.proofs.cursor.Cursor.new.Reads as new-reads
-use Rattle.reader.proofs.Rules.{as-nested-laws}
+use Rattle.reader.proofs.Rules.{as_nested_laws}
 
 abbrev E : ℕ → lts.Claims
 E t = (place-reads.Asked, place-reads.Learnt, kind-at-reads.Asked, kind-at-reads.Learnt, opens-reads.Asked, opens-reads.Learnt, is-full-reads.Asked, is-full-reads.Learnt, stored-of-reads.Asked, stored-of-reads.Learnt, put-row-reads.Asked, put-row-reads.Learnt, new-reads.Asked, new-reads.Learnt, body_below t, body.Post, put-beneath-reads.Asked, put-beneath-reads.Learnt)
@@ -37,37 +37,37 @@ abbrev μ-loop : lts.decreases-loop
 pub closed : (t : ℕ) {M : Type 1} → lts.Closed (E t) (as-nested-at t) as-nested.Post M
 closed t =
     lts.spec (E t) (as-nested-at t) as-nested.Post Inv-loop μ-loop
-    (λ c κs. search (rules, as-nested-laws))  -- place-requires
-    (λ c κs. search (rules, as-nested-laws))  -- kind-at-requires
-    (λ c. search (rules, as-nested-laws))  -- loop-holds
-    (λ c κs. search (rules, as-nested-laws))  -- opens-requires
-    (λ c. search (rules, as-nested-laws))  -- same-length
+    (λ c κs. search (rules, as_nested_laws))  -- place-requires
+    (λ c κs. search (rules, as_nested_laws))  -- kind-at-requires
+    (λ c. search (rules, as_nested_laws))  -- loop-holds
+    (λ c κs. search (rules, as_nested_laws))  -- opens-requires
+    (λ c. search (rules, as_nested_laws))  -- same-length
     (λ c. run_refused c.before.before.before.loop.invariant c.before.before.loop-test.true (nested_unfit c.before.before.before.before.before.place.ensures c.before.before.before.before.kind_at.ensures c.before.opens.ensures _ _ _ _ _ _ _ c.if1.true) refl)  -- returns
-    (λ c. search (rules, as-nested-laws))  -- same-length-2
+    (λ c. search (rules, as_nested_laws))  -- same-length-2
     (λ c. run_refused c.before.before.before.before.loop.invariant c.before.before.before.loop-test.true (nested_deep c.before.before.before.before.before.before.place.ensures c.before.before.before.before.before.kind_at.ensures c.before.before.opens.ensures _ _ _ _ _ _ _ c.before.if1.false c.if2.true) refl)  -- returns-2
-    (λ c κs. search (rules, as-nested-laws))  -- is-full-requires
-    (λ c. search (rules, as-nested-laws))  -- same-length-3
+    (λ c κs. search (rules, as_nested_laws))  -- is-full-requires
+    (λ c. search (rules, as_nested_laws))  -- same-length-3
     (λ c. run_refused c.before.before.before.before.before.before.before.loop.invariant c.before.before.before.before.before.before.loop-test.true (nested_full c.before.before.before.before.before.before.before.before.before.place.ensures c.before.before.before.before.before.before.before.before.kind_at.ensures c.before.before.before.before.before.opens.ensures _ _ _ _ _ _ _ c.before.before.before.before.if1.false c.before.before.before.if2.false _ c.before.is-full.ensures c.if3.true) refl)  -- returns-3
-    (λ c κs. search (rules, as-nested-laws))  -- stored-of-requires
-    (λ c. search (rules, as-nested-laws))  -- cast-t35
+    (λ c κs. search (rules, as_nested_laws))  -- stored-of-requires
+    (λ c. search (rules, as_nested_laws))  -- cast-t35
     (λ c κs. full_fits _ _ _ c.before.before.before.is-full.ensures c.before.before.if3.false)  -- put-row-requires
-    (λ c κs. search (rules, as-nested-laws))  -- new-requires
+    (λ c κs. search (rules, as_nested_laws))  -- new-requires
     (λ c. row_next _ _ _ c.before.before.before.before.before.before.before.before.is-full.ensures c.before.before.before.before.before.before.before.if3.false (run_long c.before.before.before.before.before.before.before.before.before.before.before.before.before.before.loop.invariant c.before.before.before.before.before.before.before.before.before.before.before.before.before.before.before.before.before.before.before.before.before.well_formed.1.1.1.1.0.0))  -- add-body
-    (λ c. search (rules, as-nested-laws))  -- sub-body
-    (λ c κs. (search (rules, as-nested-laws, c.before.before.before.before.before.before.before.before.before.before.before.before.before.before.before.before.before.before.before.before.before.requires), c.before.before.before.before.before.before.before.before.before.before.before.before.before.before.before.kind_at.ensures))  -- body-requires
-    (λ c. search (rules, as-nested-laws))  -- enum-known-x
+    (λ c. search (rules, as_nested_laws))  -- sub-body
+    (λ c κs. (search (rules, as_nested_laws, c.before.before.before.before.before.before.before.before.before.before.before.before.before.before.before.before.before.before.before.before.before.requires), c.before.before.before.before.before.before.before.before.before.before.before.before.before.before.before.kind_at.ensures))  -- body-requires
+    (λ c. search (rules, as_nested_laws))  -- enum-known-x
     (λ c. run_kept c.before.before.before.before.before.before.before.before.before.before.before.before.before.before.before.before.before.before.before.before.loop.invariant _ c.before.before.before.before.before.before.before.before.before.before.before.before.before.before.is-full.ensures c.before.before.before.before.before.before.before.before.before.before.before.before.before.if3.false c.before.before.before.before.before.before.before.before.before.before.put_row_law.ensures c.before.before.before.before.before.body.ensures)  -- same-length-4
     (λ c. run_short c.before.before.before.before.before.before.before.before.before.before.before.before.before.before.before.before.before.before.before.before.loop.invariant c.before.before.before.before.before.before.before.before.before.before.before.before.before.before.before.before.before.before.before.loop-test.true (nested_short c.before.before.before.before.before.before.before.before.before.before.before.before.before.before.before.before.before.before.before.before.before.before.place.ensures c.before.before.before.before.before.before.before.before.before.before.before.before.before.before.before.before.before.before.before.before.before.kind_at.ensures c.before.before.before.before.before.before.before.before.before.before.before.before.before.before.before.before.before.before.opens.ensures _ _ _ _ _ _ _ c.before.before.before.before.before.before.before.before.before.before.before.before.before.before.before.before.before.if1.false c.before.before.before.before.before.before.before.before.before.before.before.before.before.before.before.before.if2.false _ c.before.before.before.before.before.before.before.before.before.before.before.before.before.before.is-full.ensures c.before.before.before.before.before.before.before.before.before.before.before.before.before.if3.false c.before.before.before.before.before.before.before.before.before.before.before.before.Stored-of.ensures c.before.before.before.before.before.before.before.before.before.before.put_row_law.ensures c.before.before.before.before.before.before.new.ensures c.before.before.before.before.before.body.ensures _ (search rules)) refl)  -- returns-4
-    (λ c. search (rules, as-nested-laws))  -- enum-known-why
+    (λ c. search (rules, as_nested_laws))  -- enum-known-why
     (λ c. run_kept c.before.before.before.before.before.before.before.before.before.before.before.before.before.before.before.before.before.before.before.before.loop.invariant _ c.before.before.before.before.before.before.before.before.before.before.before.before.before.before.is-full.ensures c.before.before.before.before.before.before.before.before.before.before.before.before.before.if3.false c.before.before.before.before.before.before.before.before.before.before.put_row_law.ensures c.before.before.before.before.before.body.ensures)  -- same-length-5
     (λ c. run_refused c.before.before.before.before.before.before.before.before.before.before.before.before.before.before.before.before.before.before.before.before.loop.invariant c.before.before.before.before.before.before.before.before.before.before.before.before.before.before.before.before.before.before.before.loop-test.true (nested_refused c.before.before.before.before.before.before.before.before.before.before.before.before.before.before.before.before.before.before.before.before.before.before.place.ensures c.before.before.before.before.before.before.before.before.before.before.before.before.before.before.before.before.before.before.before.before.before.kind_at.ensures c.before.before.before.before.before.before.before.before.before.before.before.before.before.before.before.before.before.before.opens.ensures _ _ _ _ _ _ _ c.before.before.before.before.before.before.before.before.before.before.before.before.before.before.before.before.before.if1.false c.before.before.before.before.before.before.before.before.before.before.before.before.before.before.before.before.if2.false _ c.before.before.before.before.before.before.before.before.before.before.before.before.before.before.is-full.ensures c.before.before.before.before.before.before.before.before.before.before.before.before.before.if3.false c.before.before.before.before.before.before.before.before.before.before.before.before.Stored-of.ensures c.before.before.before.before.before.before.before.before.before.before.put_row_law.ensures c.before.before.before.before.before.before.new.ensures c.before.before.before.before.before.body.ensures _ (search rules)) refl)  -- returns-5
-    (λ c. search (rules, as-nested-laws))  -- enum-known-e
+    (λ c. search (rules, as_nested_laws))  -- enum-known-e
     (λ c. count_from c.before.before.before.before.before.body.ensures c.before.e.given.1)  -- sub-rows
     (λ c. count_past _ c.before.before.before.before.before.body.ensures c.before.e.given.1)  -- sub-beneath
     (λ c κs. place_kept _ _ _ _ _ _ _ _ c.before.before.before.before.before.before.before.before.before.before.before.before.before.before.before.is-full.ensures c.before.before.before.before.before.before.before.before.before.before.before.before.before.before.if3.false c.before.before.before.before.before.before.before.before.before.before.before.put_row_law.ensures c.before.before.before.before.before.before.body.ensures)  -- put-beneath-requires
     (λ c. next_fits _ _ c.before.before.before.before.before.before.before.before.before.before.before.before.before.before.before.before.before.before.before.before.before.before.before.loop-test.true c.before.before.before.before.before.before.before.before.before.before.before.before.before.before.before.before.before.before.before.before.before.before.before.before.before.before.before.before.before.before.before.ranges.count)  -- add-i
     (λ c. nearer _ _ c.before.before.before.before.before.before.before.before.before.before.before.before.before.before.before.before.before.before.before.before.before.before.before.loop-test.true)  -- loop-less
     (λ c. run_turn c.before.before.before.before.before.before.before.before.before.before.before.before.before.before.before.before.before.before.before.before.before.before.before.before.loop.invariant c.before.before.before.before.before.before.before.before.before.before.before.before.before.before.before.before.before.before.before.before.before.before.before.loop-test.true (nested_read c.before.before.before.before.before.before.before.before.before.before.before.before.before.before.before.before.before.before.before.before.before.before.before.before.before.before.place.ensures c.before.before.before.before.before.before.before.before.before.before.before.before.before.before.before.before.before.before.before.before.before.before.before.before.before.kind_at.ensures c.before.before.before.before.before.before.before.before.before.before.before.before.before.before.before.before.before.before.before.before.before.before.opens.ensures _ _ _ _ _ _ _ c.before.before.before.before.before.before.before.before.before.before.before.before.before.before.before.before.before.before.before.before.before.if1.false c.before.before.before.before.before.before.before.before.before.before.before.before.before.before.before.before.before.before.before.before.if2.false _ c.before.before.before.before.before.before.before.before.before.before.before.before.before.before.before.before.before.before.is-full.ensures c.before.before.before.before.before.before.before.before.before.before.before.before.before.before.before.before.before.if3.false c.before.before.before.before.before.before.before.before.before.before.before.before.before.before.before.before.Stored-of.ensures c.before.before.before.before.before.before.before.before.before.before.before.before.before.before.put_row_law.ensures c.before.before.before.before.before.before.before.before.before.before.new.ensures c.before.before.before.before.before.before.before.before.before.body.ensures _ _ _ (search rules) c.before.before.put_beneath.ensures) refl)  -- loop-again
-    (λ c κs. search (rules, as-nested-laws))  -- new-requires-2
-    (λ c. search (rules, as-nested-laws))  -- same-length-6
+    (λ c κs. search (rules, as_nested_laws))  -- new-requires-2
+    (λ c. search (rules, as_nested_laws))  -- same-length-6
     (λ c. run_end c.before.before.loop.invariant c.before.loop-test.false c.new2.ensures)  -- returns-6

@@ -19,7 +19,7 @@ use Rattle.values.proofs.scalar.enum_type.Reads as enum-type-reads
 use Rattle.wire.proofs.cursor.Cursor.new.Reads as new-reads
 use Rattle.wire.proofs.dheader.cut.Reads as cut-reads
 use Rattle.wire.proofs.settings.Settings.keeps_ends.Reads as keeps-ends-reads
-use Rattle.reader.proofs.Rules.{body-laws}
+use Rattle.reader.proofs.Rules.{body_laws}
 
 abbrev E : ℕ → lts.Claims
 E t = (base-at-reads.Asked, base-at-reads.Learnt, enum-type-reads.Asked, enum-type-reads.Learnt, beginning-reads.Asked, beginning-reads.Learnt, cut-reads.Asked, cut-reads.Learnt, is-mutable-reads.Asked, is-mutable-reads.Learnt, member-count-reads.Asked, member-count-reads.Learnt, start-at-reads.Asked, start-at-reads.Learnt, structure::mmembers-below t, structure::mmembers.Post, inner_below t, inner.Post, keeps-ends-reads.Asked, keeps-ends-reads.Learnt, is-delimited-reads.Asked, is-delimited-reads.Learnt, new-reads.Asked, new-reads.Learnt)
@@ -27,38 +27,38 @@ E t = (base-at-reads.Asked, base-at-reads.Learnt, enum-type-reads.Asked, enum-ty
 pub closed : (t : ℕ) {M : Type 1} → lts.Closed (E t) (body_at t) body.Post M
 closed t =
     lts.spec (E t) (body_at t) body.Post
-    (λ c κs. search (rules, body-laws))  -- base-at-requires
-    (λ c κs. search (rules, body-laws))  -- enum-type-requires
-    (λ c. search (rules, body-laws))  -- same-length
-    (λ c. search (rules, body-laws))  -- returns
-    (λ c κs. search (rules, body-laws))  -- beginning-requires
-    (λ c. search (rules, body-laws))  -- enum-known-x
-    (λ c. search (rules, body-laws))  -- enum-told
-    (λ c. search (rules, body-laws))  -- enum-known-d
-    (λ c κs. search (rules, body-laws))  -- cut-requires
-    (λ c κs. search (rules, body-laws))  -- is-mutable-requires
-    (λ c κs. search (rules, body-laws))  -- member-count-requires
-    (λ c κs. search (rules, body-laws))  -- start-at-requires
-    (λ c. search (rules, body-laws))  -- enum-known-x-2
-    (λ c. search (rules, body-laws))  -- enum-known-back
-    (λ c κs. (search (rules, body-laws, c.before.before.before.before.before.before.before.before.before.before.before.before.before.before.before.before.before.before.requires.0), mstruct_hint _ _ _ _ _ _ c.before.before.before.before.before.member-count.ensures.0 _ c.before.before.before.before.start_at.ensures _ _ c.before.before.back.given.1))  -- mmembers-requires
+    (λ c κs. search (rules, body_laws))  -- base-at-requires
+    (λ c κs. search (rules, body_laws))  -- enum-type-requires
+    (λ c. search (rules, body_laws))  -- same-length
+    (λ c. search (rules, body_laws))  -- returns
+    (λ c κs. search (rules, body_laws))  -- beginning-requires
+    (λ c. search (rules, body_laws))  -- enum-known-x
+    (λ c. search (rules, body_laws))  -- enum-told
+    (λ c. search (rules, body_laws))  -- enum-known-d
+    (λ c κs. search (rules, body_laws))  -- cut-requires
+    (λ c κs. search (rules, body_laws))  -- is-mutable-requires
+    (λ c κs. search (rules, body_laws))  -- member-count-requires
+    (λ c κs. search (rules, body_laws))  -- start-at-requires
+    (λ c. search (rules, body_laws))  -- enum-known-x-2
+    (λ c. search (rules, body_laws))  -- enum-known-back
+    (λ c κs. (search (rules, body_laws, c.before.before.before.before.before.before.before.before.before.before.before.before.before.before.before.before.before.before.requires.0), mstruct_hint _ _ _ _ _ _ c.before.before.before.before.before.member-count.ensures.0 _ c.before.before.before.before.start_at.ensures _ _ c.before.before.back.given.1))  -- mmembers-requires
     (λ c. body_mstruct _ _ _ _ _ _ _ _ _ _ c.before.before.before.before.before.before.before.before.before.before.before.before.before.before.before.before.before.requires.1 c.before.before.before.before.before.before.before.before.before.before.before.before.if1.false _ c.before.before.before.before.before.before.before.before.before.before.before.beginning.ensures _ _ c.before.before.before.before.before.before.before.before.before.d.given.1 _ c.before.before.before.before.before.before.before.cut.ensures _ c.before.before.before.before.before.before.is-mutable.ensures c.before.before.before.before.before.if2.true _ _ (mstruct_short _ _ _ _ _ _ c.before.before.before.before.member-count.ensures.0 _ c.before.before.before.start_at.ensures _ _ _ _ _ _ c.before.x2.given.1))  -- returns-2
-    (λ c. search (rules, body-laws))  -- same-length-2
+    (λ c. search (rules, body_laws))  -- same-length-2
     (λ c. body_mstruct _ _ _ _ _ _ _ _ _ _ c.before.before.before.before.before.before.before.before.before.before.before.before.before.before.before.before.before.before.before.before.before.requires.1 c.before.before.before.before.before.before.before.before.before.before.before.before.before.before.before.before.if1.false _ c.before.before.before.before.before.before.before.before.before.before.before.before.before.before.before.beginning.ensures _ _ c.before.before.before.before.before.before.before.before.before.before.before.before.before.d.given.1 _ c.before.before.before.before.before.before.before.before.before.before.before.cut.ensures _ c.before.before.before.before.before.before.before.before.before.before.is-mutable.ensures c.before.before.before.before.before.before.before.before.before.if2.true _ _ (mstruct_members _ _ _ _ _ _ c.before.before.before.before.before.before.before.before.member-count.ensures.0 _ c.before.before.before.before.before.before.before.start_at.ensures _ _ _ _ _ _ _ c.before.before.before.before.before.back.given.1 _ _ c.before.before.mmembers.ensures))  -- returns-3
-    (λ c κs. (search (rules, body-laws, c.before.before.before.before.before.before.before.before.before.before.before.before.before.requires.0), no_mutable_structure _ _ _ _ c.before.before.before.before.before.before.before.before.before.before.before.before.before.requires.1 c.before.before.is-mutable.ensures c.before.if2.false))  -- inner-requires
-    (λ c. search (rules, body-laws))  -- enum-known-x-3
-    (λ c. search (rules, body-laws))  -- enum-known-why
-    (λ c. search (rules, body-laws))  -- enum-known-e
-    (λ c κs. search (rules, body-laws))  -- keeps-ends-requires
-    (λ c κs. search (rules, body-laws))  -- is-delimited-requires
-    (λ c κs. search (rules, body-laws))  -- new-requires
-    (λ c. search (rules, body-laws))  -- same-length-3
+    (λ c κs. (search (rules, body_laws, c.before.before.before.before.before.before.before.before.before.before.before.before.before.requires.0), no_mutable_structure _ _ _ _ c.before.before.before.before.before.before.before.before.before.before.before.before.before.requires.1 c.before.before.is-mutable.ensures c.before.if2.false))  -- inner-requires
+    (λ c. search (rules, body_laws))  -- enum-known-x-3
+    (λ c. search (rules, body_laws))  -- enum-known-why
+    (λ c. search (rules, body_laws))  -- enum-known-e
+    (λ c κs. search (rules, body_laws))  -- keeps-ends-requires
+    (λ c κs. search (rules, body_laws))  -- is-delimited-requires
+    (λ c κs. search (rules, body_laws))  -- new-requires
+    (λ c. search (rules, body_laws))  -- same-length-3
     (λ c. body_there _ _ _ _ _ _ _ _ _ _ c.before.before.before.before.before.before.before.before.before.before.before.before.before.before.before.before.before.before.before.before.before.before.before.requires.1 c.before.before.before.before.before.before.before.before.before.before.before.before.before.before.before.before.before.before.if1.false _ c.before.before.before.before.before.before.before.before.before.before.before.before.before.before.before.before.before.beginning.ensures _ _ c.before.before.before.before.before.before.before.before.before.before.before.before.before.before.before.d.given.1 _ c.before.before.before.before.before.before.before.before.before.before.before.before.before.cut.ensures _ c.before.before.before.before.before.before.before.before.before.before.before.before.is-mutable.ensures c.before.before.before.before.before.before.before.before.before.before.before.if2.false _ _ c.before.before.before.before.before.before.before.before.before.inner.ensures _ _ c.before.before.before.before.before.e.given.1 _ _ c.before.before.before.keeps-ends.ensures c.before.before.is-delimited.ensures c.before.if3.true _ c.new.ensures)  -- returns-4
-    (λ c. search (rules, body-laws))  -- returns-5
-    (λ c. search (rules, body-laws))  -- returns-6
-    (λ c. search (rules, body-laws))  -- same-length-4
+    (λ c. search (rules, body_laws))  -- returns-5
+    (λ c. search (rules, body_laws))  -- returns-6
+    (λ c. search (rules, body_laws))  -- same-length-4
     (λ c. body_fell _ _ _ _ _ _ _ _ _ _ c.before.before.before.before.before.before.before.before.before.before.before.before.before.before.before.before.before.before.before.requires.1 c.before.before.before.before.before.before.before.before.before.before.before.before.before.before.if1.false _ c.before.before.before.before.before.before.before.before.before.before.before.before.before.beginning.ensures _ _ c.before.before.before.before.before.before.before.before.before.before.before.d.given.1 _ c.before.before.before.before.before.before.before.before.before.cut.ensures _ c.before.before.before.before.before.before.before.before.is-mutable.ensures c.before.before.before.before.before.before.before.if2.false _ _ c.before.before.before.before.before.inner.ensures _ c.before.x3.given.1)  -- returns-7
-    (λ c. search (rules, body-laws))  -- same-length-5
+    (λ c. search (rules, body_laws))  -- same-length-5
     (λ c. body_refused _ _ _ _ _ _ _ _ _ _ c.before.before.before.before.before.before.before.before.before.before.before.before.before.before.before.before.before.before.before.requires.1 c.before.before.before.before.before.before.before.before.before.before.before.before.before.before.if1.false _ c.before.before.before.before.before.before.before.before.before.before.before.before.before.beginning.ensures _ _ c.before.before.before.before.before.before.before.before.before.before.before.d.given.1 _ c.before.before.before.before.before.before.before.before.before.cut.ensures _ c.before.before.before.before.before.before.before.before.is-mutable.ensures c.before.before.before.before.before.before.before.if2.false _ _ c.before.before.before.before.before.inner.ensures _ c.before.why.given.1)  -- returns-8
-    (λ c. search (rules, body-laws))  -- same-length-6
+    (λ c. search (rules, body_laws))  -- same-length-6
     (λ c. body_rest _ _ _ _ _ _ _ _ _ _ c.before.before.before.before.before.before.before.before.before.before.before.before.before.before.before.before.before.before.before.before.before.before.requires.1 c.before.before.before.before.before.before.before.before.before.before.before.before.before.before.before.before.before.if1.false _ c.before.before.before.before.before.before.before.before.before.before.before.before.before.before.before.before.beginning.ensures _ _ c.before.before.before.before.before.before.before.before.before.before.before.before.before.before.d.given.1 _ c.before.before.before.before.before.before.before.before.before.before.before.before.cut.ensures _ c.before.before.before.before.before.before.before.before.before.before.before.is-mutable.ensures c.before.before.before.before.before.before.before.before.before.before.if2.false _ _ c.before.before.before.before.before.before.before.before.inner.ensures _ _ c.before.before.before.before.e.given.1 _ _ c.before.before.keeps-ends.ensures c.before.is-delimited.ensures c.if3.false)  -- returns-9

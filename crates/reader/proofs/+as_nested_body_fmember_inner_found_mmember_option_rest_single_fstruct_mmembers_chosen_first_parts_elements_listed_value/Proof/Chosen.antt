@@ -11,7 +11,7 @@ use Rattle.book.proofs.member.id.Reads as id-reads
 use Rattle.book.proofs.member.is_optional.Reads as is-optional-reads
 use Rattle.book.proofs.member.type_index.Reads as type-index-reads
 use Rattle.choice.proofs.select.select.Reads as select-reads
-use Rattle.reader.proofs.Rules.{chosen-laws}
+use Rattle.reader.proofs.Rules.{chosen_laws}
 
 abbrev E : ℕ → lts.Claims
 E t = (select-reads.Asked, select-reads.Learnt, member::mmember-below t, member::mmember.Post, is-optional-reads.Asked, is-optional-reads.Learnt, member::option-below t, member::option.Post, type-index-reads.Asked, type-index-reads.Learnt, id-reads.Asked, id-reads.Learnt, value::value-below t, value::value.Post)
@@ -19,25 +19,25 @@ E t = (select-reads.Asked, select-reads.Learnt, member::mmember-below t, member:
 pub closed : (t : ℕ) {M : Type 1} → lts.Closed (E t) (union::chosen-at t) union::chosen.Post M
 closed t =
     lts.spec (E t) (union::chosen-at t) union::chosen.Post
-    (λ c. search (rules, chosen-laws))  -- enum-told
-    (λ c. search (rules, chosen-laws))  -- enum-told-2
-    (λ c. search (rules, chosen-laws))  -- enum-known-v
-    (λ c κs. search (rules, chosen-laws))  -- select-requires
-    (λ c. search (rules, chosen-laws))  -- enum-told-3
-    (λ c. search (rules, chosen-laws))  -- enum-known-q
-    (λ c κs. search (rules, chosen-laws))  -- mmember-requires
-    (λ c. search (rules, chosen-laws))  -- same-length
-    (λ c. search (rules, chosen-laws))  -- returns
-    (λ c κs. search (rules, chosen-laws))  -- is-optional-requires
-    (λ c κs. search (rules, chosen-laws))  -- option-requires
-    (λ c. search (rules, chosen-laws))  -- same-length-2
-    (λ c. search (rules, chosen-laws))  -- returns-2
-    (λ c κs. search (rules, chosen-laws))  -- type-index-requires
-    (λ c κs. search (rules, chosen-laws))  -- id-requires
-    (λ c. search (rules, chosen-laws))  -- cast-value
-    (λ c κs. search (rules, chosen-laws))  -- value-requires
-    (λ c. search (rules, chosen-laws))  -- returns-3
-    (λ c. search (rules, chosen-laws))  -- returns-4
-    (λ c. search (rules, chosen-laws))  -- returns-5
-    (λ c. search (rules, chosen-laws))  -- same-length-3
-    (λ c. search (rules, chosen-laws))  -- returns-6
+    (λ c. search (rules, chosen_laws))  -- enum-told
+    (λ c. search (rules, chosen_laws))  -- enum-told-2
+    (λ c. search (rules, chosen_laws))  -- enum-known-v
+    (λ c κs. search (rules, chosen_laws))  -- select-requires
+    (λ c. search (rules, chosen_laws))  -- enum-told-3
+    (λ c. search (rules, chosen_laws))  -- enum-known-q
+    (λ c κs. search (rules, chosen_laws))  -- mmember-requires
+    (λ c. search (rules, chosen_laws))  -- same-length
+    (λ c. search (rules, chosen_laws))  -- returns
+    (λ c κs. search (rules, chosen_laws))  -- is-optional-requires
+    (λ c κs. search (rules, chosen_laws))  -- option-requires
+    (λ c. search (rules, chosen_laws))  -- same-length-2
+    (λ c. search (rules, chosen_laws))  -- returns-2
+    (λ c κs. search (rules, chosen_laws))  -- type-index-requires
+    (λ c κs. search (rules, chosen_laws))  -- id-requires
+    (λ c. search (rules, chosen_laws))  -- cast-value
+    (λ c κs. search (rules, chosen_laws))  -- value-requires
+    (λ c. search (rules, chosen_laws))  -- returns-3
+    (λ c. search (rules, chosen_laws))  -- returns-4
+    (λ c. search (rules, chosen_laws))  -- returns-5
+    (λ c. search (rules, chosen_laws))  -- same-length-3
+    (λ c. search (rules, chosen_laws))  -- returns-6

@@ -15,7 +15,7 @@ use Rattle.kinds.proofs.unsupported_element.Reads as unsupported-element-reads
 use Rattle.table.proofs.rows.is_full.Reads as is-full-reads
 use Rattle.table.proofs.rows.put_row.Reads as put-row-reads
 use Rattle.values.proofs.list.plain.Reads as plain-reads
-use Rattle.reader.proofs.Rules.{elements-laws}
+use Rattle.reader.proofs.Rules.{elements_laws}
 
 abbrev E : ℕ → lts.Claims
 E t = (place-reads.Asked, place-reads.Learnt, kind-at-reads.Asked, kind-at-reads.Learnt, unsupported-element-reads.Asked, unsupported-element-reads.Learnt, opens-reads.Asked, opens-reads.Learnt, is-full-reads.Asked, is-full-reads.Learnt, stored-of-reads.Asked, stored-of-reads.Learnt, put-row-reads.Asked, put-row-reads.Learnt, as-nested-below t, as-nested.Post, read-as-reads.Asked, read-as-reads.Learnt, plain-reads.Asked, plain-reads.Learnt)
@@ -23,24 +23,24 @@ E t = (place-reads.Asked, place-reads.Learnt, kind-at-reads.Asked, kind-at-reads
 pub closed : (t : ℕ) {M : Type 1} → lts.Closed (E t) (value::elements-at t) value::elements.Post M
 closed t =
     lts.spec (E t) (value::elements-at t) value::elements.Post
-    (λ c κs. search (rules, elements-laws))  -- place-requires
-    (λ c κs. search (rules, elements-laws))  -- kind-at-requires
-    (λ c κs. search (rules, elements-laws))  -- unsupported-element-requires
-    (λ c. search (rules, elements-laws))  -- returns
-    (λ c κs. search (rules, elements-laws))  -- opens-requires
-    (λ c κs. search (rules, elements-laws))  -- is-full-requires
-    (λ c. search (rules, elements-laws))  -- same-length
-    (λ c. search (rules, elements-laws))  -- returns-2
-    (λ c κs. search (rules, elements-laws))  -- stored-of-requires
-    (λ c. search (rules, elements-laws))  -- cast-t24
-    (λ c κs. search (rules, elements-laws))  -- stored-of-requires-2
-    (λ c. search (rules, elements-laws))  -- cast-t26
-    (λ c κs. search (rules, elements-laws))  -- put-row-requires
+    (λ c κs. search (rules, elements_laws))  -- place-requires
+    (λ c κs. search (rules, elements_laws))  -- kind-at-requires
+    (λ c κs. search (rules, elements_laws))  -- unsupported-element-requires
+    (λ c. search (rules, elements_laws))  -- returns
+    (λ c κs. search (rules, elements_laws))  -- opens-requires
+    (λ c κs. search (rules, elements_laws))  -- is-full-requires
+    (λ c. search (rules, elements_laws))  -- same-length
+    (λ c. search (rules, elements_laws))  -- returns-2
+    (λ c κs. search (rules, elements_laws))  -- stored-of-requires
+    (λ c. search (rules, elements_laws))  -- cast-t24
+    (λ c κs. search (rules, elements_laws))  -- stored-of-requires-2
+    (λ c. search (rules, elements_laws))  -- cast-t26
+    (λ c κs. search (rules, elements_laws))  -- put-row-requires
     (λ c. row_next _ _ _ c.before.before.before.before.before.before.before.before.is-full.ensures c.before.before.before.before.before.before.before.if3.false c.before.before.before.before.before.before.before.before.before.before.before.before.before.before.before.before.before.before.before.before.well_formed.1.1.1.1.0.0)  -- add-as-nested
-    (λ c κs. search (rules, elements-laws))  -- as-nested-requires
-    (λ c. search (rules, elements-laws))  -- same-length-2
-    (λ c. search (rules, elements-laws))  -- returns-3
-    (λ c κs. search (rules, elements-laws))  -- read-as-requires
-    (λ c κs. search (rules, elements-laws))  -- plain-requires
-    (λ c. search (rules, elements-laws))  -- same-length-3
-    (λ c. search (rules, elements-laws))  -- returns-4
+    (λ c κs. search (rules, elements_laws))  -- as-nested-requires
+    (λ c. search (rules, elements_laws))  -- same-length-2
+    (λ c. search (rules, elements_laws))  -- returns-3
+    (λ c κs. search (rules, elements_laws))  -- read-as-requires
+    (λ c κs. search (rules, elements_laws))  -- plain-requires
+    (λ c. search (rules, elements_laws))  -- same-length-3
+    (λ c. search (rules, elements_laws))  -- returns-4

@@ -8,7 +8,7 @@ use Rattle.reader.proofs.member.mmember.Reads as member::mmember
 use Rattle.reader.proofs.value.value.Reads as value::value
 use Rattle.book.proofs.member.id.Reads as id-reads
 use Rattle.book.proofs.member.type_index.Reads as type-index-reads
-use Rattle.reader.proofs.Rules.{first-laws}
+use Rattle.reader.proofs.Rules.{first_laws}
 
 abbrev E : ℕ → lts.Claims
 E t = (member::mmember-below t, member::mmember.Post, type-index-reads.Asked, type-index-reads.Learnt, id-reads.Asked, id-reads.Learnt, value::value-below t, value::value.Post)
@@ -16,12 +16,12 @@ E t = (member::mmember-below t, member::mmember.Post, type-index-reads.Asked, ty
 pub closed : (t : ℕ) {M : Type 1} → lts.Closed (E t) (union::first-at t) union::first.Post M
 closed t =
     lts.spec (E t) (union::first-at t) union::first.Post
-    (λ c κs. search (rules, first-laws))  -- mmember-requires
-    (λ c. search (rules, first-laws))  -- same-length
-    (λ c. search (rules, first-laws))  -- returns
-    (λ c κs. search (rules, first-laws))  -- type-index-requires
-    (λ c κs. search (rules, first-laws))  -- id-requires
-    (λ c. search (rules, first-laws))  -- cast-value
-    (λ c κs. search (rules, first-laws))  -- value-requires
-    (λ c. search (rules, first-laws))  -- same-length-2
-    (λ c. search (rules, first-laws))  -- returns-2
+    (λ c κs. search (rules, first_laws))  -- mmember-requires
+    (λ c. search (rules, first_laws))  -- same-length
+    (λ c. search (rules, first_laws))  -- returns
+    (λ c κs. search (rules, first_laws))  -- type-index-requires
+    (λ c κs. search (rules, first_laws))  -- id-requires
+    (λ c. search (rules, first_laws))  -- cast-value
+    (λ c κs. search (rules, first_laws))  -- value-requires
+    (λ c. search (rules, first_laws))  -- same-length-2
+    (λ c. search (rules, first_laws))  -- returns-2

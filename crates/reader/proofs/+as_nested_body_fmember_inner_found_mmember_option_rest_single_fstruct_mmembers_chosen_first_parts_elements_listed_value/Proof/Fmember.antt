@@ -17,7 +17,7 @@ use Rattle.kinds.proofs.opens.Reads as opens-reads
 use Rattle.reader.proofs.plain.kind_of.Reads as kind-of-reads
 use Rattle.values.proofs.quick.value_at.Reads as quick-value-at-reads
 use Rattle.wire.proofs.cursor.Cursor.new.Reads as new-reads
-use Rattle.reader.proofs.Rules.{fmember-laws}
+use Rattle.reader.proofs.Rules.{fmember_laws}
 
 abbrev E : ℕ → lts.Claims
 E t = (is-there-reads.Asked, is-there-reads.Learnt, head-there-reads.Asked, head-there-reads.Learnt, kind-of-reads.Asked, kind-of-reads.Learnt, quick-value-at-reads.Asked, quick-value-at-reads.Learnt, new-reads.Asked, new-reads.Learnt, opens-reads.Asked, opens-reads.Learnt, single-below t, single.Post, rest_below t, rest.Post)
@@ -25,19 +25,19 @@ E t = (is-there-reads.Asked, is-there-reads.Learnt, head-there-reads.Asked, head
 pub closed : (t : ℕ) {M : Type 1} → lts.Closed (E t) (fmember-at t) fmember.Post M
 closed t =
     lts.spec (E t) (fmember-at t) fmember.Post
-    (λ c κs. search (rules, fmember-laws))  -- is-there-requires
+    (λ c κs. search (rules, fmember_laws))  -- is-there-requires
     (λ c κs. omega (arith, is_inside _ _ _ _ c.before.is_there_law.ensures c.if1.true))  -- head-there-requires
-    (λ c. search (rules, fmember-laws))  -- cast-i
-    (λ c κs. search (rules, fmember-laws))  -- kind-of-requires
-    (λ c κs. search (rules, fmember-laws))  -- value-at-requires
-    (λ c κs. search (rules, fmember-laws))  -- new-requires
+    (λ c. search (rules, fmember_laws))  -- cast-i
+    (λ c κs. search (rules, fmember_laws))  -- kind-of-requires
+    (λ c κs. search (rules, fmember_laws))  -- value-at-requires
+    (λ c κs. search (rules, fmember_laws))  -- new-requires
     (λ c. fmember_next _ _ _ _ _ _ _ _ c.before.before.before.before.before.before.before.before.before.before.head_there.ensures c.before.before.before.before.before.before.before.before.if2.true c.before.before.before.before.before.before.kind-of.ensures _ _ c.before.before.before.before.value-at.ensures c.before.if3.true c.before.before.before.before.before.before.before.before.before.before.before.before.before.before.before.before.before.well_formed.1.1.1.1.0.0)  -- add-t21
-    (λ c. search (rules, fmember-laws))  -- same-length
+    (λ c. search (rules, fmember_laws))  -- same-length
     (λ c. fmember_quick _ _ _ _ _ _ _ _ c.before.before.before.before.before.before.before.before.before.before.head_there.ensures c.before.before.before.before.before.before.before.before.if2.true c.before.before.before.before.before.before.kind-of.ensures _ _ c.before.before.before.before.value-at.ensures _ c.before.if3.true c.new.ensures)  -- returns
-    (λ c κs. search (rules, fmember-laws))  -- opens-requires
-    (λ c κs. search (rules, fmember-laws))  -- single-requires
-    (λ c. search (rules, fmember-laws))  -- same-length-2
+    (λ c κs. search (rules, fmember_laws))  -- opens-requires
+    (λ c κs. search (rules, fmember_laws))  -- single-requires
+    (λ c. search (rules, fmember_laws))  -- same-length-2
     (λ c. fmember_left _ _ _ _ _ _ _ _ c.before.before.before.before.before.before.before.before.before.before.before.before.before.before.before.head_there.ensures c.before.before.before.before.before.before.before.before.before.before.before.before.before.if2.true c.before.before.before.before.before.before.before.before.before.before.before.kind-of.ensures _ _ c.before.before.before.before.before.before.before.before.before.value-at.ensures _ c.before.before.before.before.before.before.if3.false (fmember_opened _ _ _ _ _ _ _ _ _ _ _ _ c.before.before.before.before.before.before.before.before.before.before.before.before.before.before.before.head_there.ensures.type c.before.before.before.before.before.before.before.before.before.before.before.before.before.before.before.head_there.ensures.id (member_kind _ _ _ _ _ c.before.before.before.before.before.before.before.before.before.before.before.before.before.before.before.head_there.ensures.type c.before.before.before.before.before.before.before.before.before.before.before.kind-of.ensures) _ c.before.before.before.before.before.opens.ensures c.before.before.before.before.if4.true _ c.before.before.before.before.before.before.before.before.before.before.before.before.before.before.before.head_there.ensures.option c.before.before.before.before.before.before.before.before.before.before.before.before.before.if2.true _ _ c.before.before.single.ensures))  -- returns-2
-    (λ c κs. search (rules, fmember-laws))  -- rest-requires
+    (λ c κs. search (rules, fmember_laws))  -- rest-requires
     (λ c. (by_three c.before.before.before.before.if1.branch (λ x. fmember_left _ _ _ _ _ _ _ _ x.1.ensures x.3.taken x.5.ensures _ _ x.7.ensures _ x.10.left (fmember_from _ _ _ _ _ _ _ _ x.13 c.before.before.rest.ensures)) (λ x. fmember_from _ _ _ _ _ _ _ _ x.4 c.before.before.rest.ensures) (λ x. fmember_from _ _ _ _ _ _ _ _ x.1 c.before.before.rest.ensures)).table.long)  -- same-length-3
     (λ c. by_three c.before.before.before.before.if1.branch (λ x. fmember_left _ _ _ _ _ _ _ _ x.1.ensures x.3.taken x.5.ensures _ _ x.7.ensures _ x.10.left (fmember_from _ _ _ _ _ _ _ _ x.13 c.before.before.rest.ensures)) (λ x. fmember_from _ _ _ _ _ _ _ _ x.4 c.before.before.rest.ensures) (λ x. fmember_from _ _ _ _ _ _ _ _ x.1 c.before.before.rest.ensures))  -- returns-3

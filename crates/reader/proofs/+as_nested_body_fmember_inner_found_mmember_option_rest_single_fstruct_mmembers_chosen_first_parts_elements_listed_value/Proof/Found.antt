@@ -15,7 +15,7 @@ use Rattle.book.proofs.types.element.Reads as element-reads
 use Rattle.kinds.proofs.opens.Reads as opens-reads
 use Rattle.reader.proofs.types.by_length_law.Reads as by-length-reads
 use Rattle.reader.proofs.types.element_count.Reads as element-count-reads
-use Rattle.reader.proofs.Rules.{found-laws}
+use Rattle.reader.proofs.Rules.{found_laws}
 
 abbrev E : ℕ → lts.Claims
 E t = (type-index-reads.Asked, type-index-reads.Learnt, id-reads.Asked, id-reads.Learnt, place-reads.Asked, place-reads.Learnt, kind-at-reads.Asked, kind-at-reads.Learnt, opens-reads.Asked, opens-reads.Learnt, as-nested-below t, as-nested.Post, by-length-reads.Asked, by-length-reads.Learnt, element-count-reads.Asked, element-count-reads.Learnt, element-reads.Asked, element-reads.Learnt, value::elements-below t, value::elements.Post, value::value-below t, value::value.Post)
@@ -23,21 +23,21 @@ E t = (type-index-reads.Asked, type-index-reads.Learnt, id-reads.Asked, id-reads
 pub closed : (t : ℕ) {M : Type 1} → lts.Closed (E t) (member::found-at t) member::found.Post M
 closed t =
     lts.spec (E t) (member::found-at t) member::found.Post
-    (λ c κs. search (rules, found-laws))  -- type-index-requires
-    (λ c κs. search (rules, found-laws))  -- id-requires
-    (λ c. search (rules, found-laws))  -- cast-i
-    (λ c κs. search (rules, found-laws))  -- place-requires
-    (λ c κs. search (rules, found-laws))  -- kind-at-requires
-    (λ c κs. search (rules, found-laws))  -- opens-requires
-    (λ c κs. search (rules, found-laws))  -- as-nested-requires
-    (λ c. search (rules, found-laws))  -- same-length
-    (λ c. search (rules, found-laws))  -- returns
-    (λ c κs. search (rules, found-laws))  -- by-length-requires
-    (λ c κs. search (rules, found-laws))  -- element-count-requires
-    (λ c κs. search (rules, found-laws))  -- element-requires
-    (λ c κs. search (rules, found-laws))  -- elements-requires
-    (λ c. search (rules, found-laws))  -- same-length-2
-    (λ c. search (rules, found-laws))  -- returns-2
-    (λ c κs. search (rules, found-laws))  -- value-requires
-    (λ c. search (rules, found-laws))  -- same-length-3
-    (λ c. search (rules, found-laws))  -- returns-3
+    (λ c κs. search (rules, found_laws))  -- type-index-requires
+    (λ c κs. search (rules, found_laws))  -- id-requires
+    (λ c. search (rules, found_laws))  -- cast-i
+    (λ c κs. search (rules, found_laws))  -- place-requires
+    (λ c κs. search (rules, found_laws))  -- kind-at-requires
+    (λ c κs. search (rules, found_laws))  -- opens-requires
+    (λ c κs. search (rules, found_laws))  -- as-nested-requires
+    (λ c. search (rules, found_laws))  -- same-length
+    (λ c. search (rules, found_laws))  -- returns
+    (λ c κs. search (rules, found_laws))  -- by-length-requires
+    (λ c κs. search (rules, found_laws))  -- element-count-requires
+    (λ c κs. search (rules, found_laws))  -- element-requires
+    (λ c κs. search (rules, found_laws))  -- elements-requires
+    (λ c. search (rules, found_laws))  -- same-length-2
+    (λ c. search (rules, found_laws))  -- returns-2
+    (λ c κs. search (rules, found_laws))  -- value-requires
+    (λ c. search (rules, found_laws))  -- same-length-3
+    (λ c. search (rules, found_laws))  -- returns-3

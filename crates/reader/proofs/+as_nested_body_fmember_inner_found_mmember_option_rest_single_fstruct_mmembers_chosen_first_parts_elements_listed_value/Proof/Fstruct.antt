@@ -15,7 +15,7 @@ use Rattle.book.proofs.member.after.Reads as after-reads
 use Rattle.book.proofs.member.members.Reads as members-reads
 use Rattle.reader.proofs.types.absorbs.Reads as absorbs-reads
 use Rattle.wire.proofs.cursor.Cursor.new.Reads as new-reads
-use Rattle.reader.proofs.Rules.{fstruct-laws}
+use Rattle.reader.proofs.Rules.{fstruct_laws}
 
 abbrev E : ℕ → lts.Claims
 E t = (members-reads.Asked, members-reads.Learnt, new-reads.Asked, new-reads.Learnt, fmember-below t, fmember.Post, absorbs-reads.Asked, absorbs-reads.Learnt, after-reads.Asked, after-reads.Learnt)
@@ -29,23 +29,23 @@ abbrev μ-loop : lts.decreases-loop
 pub closed : (t : ℕ) {M : Type 1} → lts.Closed (E t) (structure::fstruct-at t) structure::fstruct.Post M
 closed t =
     lts.spec (E t) (structure::fstruct-at t) structure::fstruct.Post Inv-loop μ-loop
-    (λ c κs. search (rules, fstruct-laws))  -- members-requires
-    (λ c. search (rules, fstruct-laws))  -- loop-holds
-    (λ c κs. search (rules, fstruct-laws))  -- new-requires
-    (λ c κs. search (rules, fstruct-laws))  -- fmember-requires
-    (λ c. search (rules, fstruct-laws))  -- enum-known-e
-    (λ c. search (rules, fstruct-laws))  -- enum-known-x
-    (λ c κs. search (rules, fstruct-laws))  -- absorbs-requires
+    (λ c κs. search (rules, fstruct_laws))  -- members-requires
+    (λ c. search (rules, fstruct_laws))  -- loop-holds
+    (λ c κs. search (rules, fstruct_laws))  -- new-requires
+    (λ c κs. search (rules, fstruct_laws))  -- fmember-requires
+    (λ c. search (rules, fstruct_laws))  -- enum-known-e
+    (λ c. search (rules, fstruct_laws))  -- enum-known-x
+    (λ c κs. search (rules, fstruct_laws))  -- absorbs-requires
     (λ c. same_long c.before.before.before.before.before.before.before.before.before.before.before.before.before.loop.invariant.so c.before.before.before.before.before.before.before.before.fmember.ensures)  -- same-length
     (λ c. fmembers_ended c.before.before.before.before.before.before.before.before.before.before.before.before.before.loop.invariant c.before.before.before.before.before.before.before.before.before.before.before.if1.true c.before.before.before.before.before.before.before.before.before.new.ensures c.before.before.before.before.before.before.before.before.fmember.ensures c.before.before.before.before.x.given.1 c.before.before.absorbs.ensures c.before.if2.true)  -- returns
     (λ c. same_long c.before.before.before.before.before.before.before.before.before.before.before.before.loop.invariant.so c.before.before.before.before.before.before.before.fmember.ensures)  -- same-length-2
     (λ c. fmembers_short c.before.before.before.before.before.before.before.before.before.before.before.before.loop.invariant c.before.before.before.before.before.before.before.before.before.before.if1.true c.before.before.before.before.before.before.before.before.new.ensures c.before.before.before.before.before.before.before.fmember.ensures c.before.before.before.x.given.1 c.before.absorbs.ensures c.if2.false)  -- returns-2
-    (λ c. search (rules, fstruct-laws))  -- enum-known-why
+    (λ c. search (rules, fstruct_laws))  -- enum-known-why
     (λ c. same_long c.before.before.before.before.before.before.before.before.before.before.loop.invariant.so c.before.before.before.before.before.fmember.ensures)  -- same-length-3
     (λ c. fmembers_refused c.before.before.before.before.before.before.before.before.before.before.loop.invariant c.before.before.before.before.before.before.before.before.if1.true c.before.before.before.before.before.before.new.ensures c.before.before.before.before.before.fmember.ensures (search rules))  -- returns-3
-    (λ c κs. search (rules, fstruct-laws))  -- after-requires
-    (λ c. search (rules, fstruct-laws))  -- loop-less
+    (λ c κs. search (rules, fstruct_laws))  -- after-requires
+    (λ c. search (rules, fstruct_laws))  -- loop-less
     (λ c. fmembers_turn c.before.before.before.before.before.before.before.before.before.before.before.loop.invariant c.before.before.before.before.before.before.before.before.before.if1.true c.before.before.before.before.before.before.before.new.ensures c.before.before.before.before.before.before.fmember.ensures (search rules) c.after.ensures)  -- loop-again
-    (λ c κs. search (rules, fstruct-laws))  -- new-requires-2
-    (λ c. search (rules, fstruct-laws))  -- same-length-4
+    (λ c κs. search (rules, fstruct_laws))  -- new-requires-2
+    (λ c. search (rules, fstruct_laws))  -- same-length-4
     (λ c. fmembers_end c.before.before.before.loop.invariant c.before.if1.false c.new2.ensures)  -- returns-4

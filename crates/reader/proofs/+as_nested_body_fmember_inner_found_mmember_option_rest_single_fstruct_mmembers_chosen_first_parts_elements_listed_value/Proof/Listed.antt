@@ -15,7 +15,7 @@ use Rattle.values.proofs.count.count_at.Reads as count-at-reads
 use Rattle.wire.proofs.dheader.contents_at.Reads as contents-at-reads
 use Rattle.wire.proofs.dheader.cut.Reads as cut-reads
 use Rattle.wire.proofs.settings.Settings.keeps_ends.Reads as keeps-ends-reads
-use Rattle.reader.proofs.Rules.{listed-laws}
+use Rattle.reader.proofs.Rules.{listed_laws}
 
 abbrev E : ℕ → lts.Claims
 E t = (primitive-element-reads.Asked, primitive-element-reads.Learnt, contents-at-reads.Asked, contents-at-reads.Learnt, cut-reads.Asked, cut-reads.Learnt, is-sequence-reads.Asked, is-sequence-reads.Learnt, bound-reads.Asked, bound-reads.Learnt, count-at-reads.Asked, count-at-reads.Learnt, element-reads.Asked, element-reads.Learnt, value::elements-below t, value::elements.Post, keeps-ends-reads.Asked, keeps-ends-reads.Learnt, end-at-reads.Asked, end-at-reads.Learnt)
@@ -23,26 +23,26 @@ E t = (primitive-element-reads.Asked, primitive-element-reads.Learnt, contents-a
 pub closed : (t : ℕ) {M : Type 1} → lts.Closed (E t) (value::listed-at t) value::listed.Post M
 closed t =
     lts.spec (E t) (value::listed-at t) value::listed.Post
-    (λ c κs. search (rules, listed-laws))  -- primitive-element-requires
-    (λ c κs. search (rules, listed-laws))  -- contents-at-requires
-    (λ c. search (rules, listed-laws))  -- enum-known-x
-    (λ c. search (rules, listed-laws))  -- enum-told
-    (λ c. search (rules, listed-laws))  -- enum-known-d
-    (λ c κs. search (rules, listed-laws))  -- cut-requires
-    (λ c κs. search (rules, listed-laws))  -- is-sequence-requires
-    (λ c κs. search (rules, listed-laws))  -- bound-requires
-    (λ c. search (rules, listed-laws))  -- cast-count-at
-    (λ c κs. search (rules, listed-laws))  -- count-at-requires
-    (λ c. search (rules, listed-laws))  -- enum-known-x-2
-    (λ c. search (rules, listed-laws))  -- enum-known-count
-    (λ c κs. search (rules, listed-laws))  -- element-requires
-    (λ c κs. search (rules, listed-laws, c.before.before.before.before.before.before.before.before.before.before.before.before.before.before.before.before.before.before.requires))  -- elements-requires
-    (λ c κs. search (rules, listed-laws))  -- keeps-ends-requires
-    (λ c κs. search (rules, listed-laws))  -- end-at-requires
-    (λ c. search (rules, listed-laws))  -- same-length
+    (λ c κs. search (rules, listed_laws))  -- primitive-element-requires
+    (λ c κs. search (rules, listed_laws))  -- contents-at-requires
+    (λ c. search (rules, listed_laws))  -- enum-known-x
+    (λ c. search (rules, listed_laws))  -- enum-told
+    (λ c. search (rules, listed_laws))  -- enum-known-d
+    (λ c κs. search (rules, listed_laws))  -- cut-requires
+    (λ c κs. search (rules, listed_laws))  -- is-sequence-requires
+    (λ c κs. search (rules, listed_laws))  -- bound-requires
+    (λ c. search (rules, listed_laws))  -- cast-count-at
+    (λ c κs. search (rules, listed_laws))  -- count-at-requires
+    (λ c. search (rules, listed_laws))  -- enum-known-x-2
+    (λ c. search (rules, listed_laws))  -- enum-known-count
+    (λ c κs. search (rules, listed_laws))  -- element-requires
+    (λ c κs. search (rules, listed_laws, c.before.before.before.before.before.before.before.before.before.before.before.before.before.before.before.before.before.before.requires))  -- elements-requires
+    (λ c κs. search (rules, listed_laws))  -- keeps-ends-requires
+    (λ c κs. search (rules, listed_laws))  -- end-at-requires
+    (λ c. search (rules, listed_laws))  -- same-length
     (λ c. list_there _ _ _ _ _ _ _ _ _ _ _ c.before.before.before.before.before.before.before.before.before.before.before.before.before.before.before.before.before.before.before.primitive-element.ensures _ c.before.before.before.before.before.before.before.before.before.before.before.before.before.before.before.before.before.before.contents-at.ensures _ _ c.before.before.before.before.before.before.before.before.before.before.before.before.before.before.before.before.d.given.1 _ c.before.before.before.before.before.before.before.before.before.before.before.before.before.before.cut.ensures _ _ c.before.before.before.before.before.before.before.before.before.before.before.before.before.is-sequence.ensures c.before.before.before.before.before.before.before.before.before.before.before.before.bound.ensures _ c.before.before.before.before.before.before.before.before.before.before.before.count_at.ensures _ _ c.before.before.before.before.before.before.before.before.before.count.given.1 _ c.before.before.before.before.before.before.before.element.ensures.0 _ _ c.before.before.before.before.before.elements.ensures _ c.before.before.keeps-ends.ensures c.before.if1.true _ c.end-at.ensures)  -- returns
-    (λ c. search (rules, listed-laws))  -- returns-2
-    (λ c. search (rules, listed-laws))  -- returns-3
-    (λ c. search (rules, listed-laws))  -- returns-4
-    (λ c. search (rules, listed-laws))  -- same-length-2
+    (λ c. search (rules, listed_laws))  -- returns-2
+    (λ c. search (rules, listed_laws))  -- returns-3
+    (λ c. search (rules, listed_laws))  -- returns-4
+    (λ c. search (rules, listed_laws))  -- same-length-2
     (λ c. list_rest _ _ _ _ _ _ _ _ _ _ _ c.before.before.before.before.before.before.before.before.before.before.before.before.before.before.before.before.before.before.primitive-element.ensures _ c.before.before.before.before.before.before.before.before.before.before.before.before.before.before.before.before.before.contents-at.ensures _ _ c.before.before.before.before.before.before.before.before.before.before.before.before.before.before.before.d.given.1 _ c.before.before.before.before.before.before.before.before.before.before.before.before.before.cut.ensures _ _ c.before.before.before.before.before.before.before.before.before.before.before.before.is-sequence.ensures c.before.before.before.before.before.before.before.before.before.before.before.bound.ensures _ c.before.before.before.before.before.before.before.before.before.before.count_at.ensures _ _ c.before.before.before.before.before.before.before.before.count.given.1 _ c.before.before.before.before.before.before.element.ensures.0 _ _ c.before.before.before.before.elements.ensures _ c.before.keeps-ends.ensures c.if1.false)  -- returns-5

@@ -9,7 +9,7 @@ use Rattle.book.proofs.member.id.Reads as id-reads
 use Rattle.lookup.proofs.member.locate.Reads as locate-reads
 use Rattle.wire.proofs.cursor.Shortage.back_to.Reads as back-to-reads
 use Rattle.wire.proofs.dheader.cut.Reads as cut-reads
-use Rattle.reader.proofs.Rules.{mmember-laws}
+use Rattle.reader.proofs.Rules.{mmember_laws}
 
 abbrev E : ℕ → lts.Claims
 E t = (id-reads.Asked, id-reads.Learnt, locate-reads.Asked, locate-reads.Learnt, cut-reads.Asked, cut-reads.Learnt, member::found-below t, member::found.Post, back-to-reads.Asked, back-to-reads.Learnt)
@@ -17,22 +17,22 @@ E t = (id-reads.Asked, id-reads.Learnt, locate-reads.Asked, locate-reads.Learnt,
 pub closed : (t : ℕ) {M : Type 1} → lts.Closed (E t) (member::mmember-at t) member::mmember.Post M
 closed t =
     lts.spec (E t) (member::mmember-at t) member::mmember.Post
-    (λ c κs. search (rules, mmember-laws))  -- id-requires
-    (λ c κs. search (rules, mmember-laws))  -- locate-requires
-    (λ c. search (rules, mmember-laws))  -- enum-known-x
-    (λ c. search (rules, mmember-laws))  -- enum-known-back
-    (λ c. search (rules, mmember-laws))  -- enum-known-length
-    (λ c κs. search (rules, mmember-laws))  -- cut-requires
-    (λ c κs. search (rules, mmember-laws))  -- found-requires
-    (λ c. search (rules, mmember-laws))  -- enum-known-m
-    (λ c. search (rules, mmember-laws))  -- enum-known-x-2
-    (λ c κs. search (rules, mmember-laws))  -- back-to-requires
-    (λ c. search (rules, mmember-laws))  -- enum-known-k
-    (λ c. search (rules, mmember-laws))  -- returns
-    (λ c. search (rules, mmember-laws))  -- returns-2
-    (λ c. search (rules, mmember-laws))  -- same-length
-    (λ c. search (rules, mmember-laws))  -- returns-3
-    (λ c. search (rules, mmember-laws))  -- same-length-2
-    (λ c. search (rules, mmember-laws))  -- returns-4
-    (λ c. search (rules, mmember-laws))  -- same-length-3
-    (λ c. search (rules, mmember-laws))  -- returns-5
+    (λ c κs. search (rules, mmember_laws))  -- id-requires
+    (λ c κs. search (rules, mmember_laws))  -- locate-requires
+    (λ c. search (rules, mmember_laws))  -- enum-known-x
+    (λ c. search (rules, mmember_laws))  -- enum-known-back
+    (λ c. search (rules, mmember_laws))  -- enum-known-length
+    (λ c κs. search (rules, mmember_laws))  -- cut-requires
+    (λ c κs. search (rules, mmember_laws))  -- found-requires
+    (λ c. search (rules, mmember_laws))  -- enum-known-m
+    (λ c. search (rules, mmember_laws))  -- enum-known-x-2
+    (λ c κs. search (rules, mmember_laws))  -- back-to-requires
+    (λ c. search (rules, mmember_laws))  -- enum-known-k
+    (λ c. search (rules, mmember_laws))  -- returns
+    (λ c. search (rules, mmember_laws))  -- returns-2
+    (λ c. search (rules, mmember_laws))  -- same-length
+    (λ c. search (rules, mmember_laws))  -- returns-3
+    (λ c. search (rules, mmember_laws))  -- same-length-2
+    (λ c. search (rules, mmember_laws))  -- returns-4
+    (λ c. search (rules, mmember_laws))  -- same-length-3
+    (λ c. search (rules, mmember_laws))  -- returns-5

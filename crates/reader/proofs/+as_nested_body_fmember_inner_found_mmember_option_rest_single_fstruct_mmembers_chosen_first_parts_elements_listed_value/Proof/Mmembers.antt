@@ -27,7 +27,7 @@ use Rattle.reader.proofs.types.ending.Reads as ending-reads
 use Rattle.values.proofs.quick.found_value_at.Reads as found-value-at-reads
 use Rattle.wire.proofs.cursor.Shortage.back_to.Reads as back-to-reads
 use Rattle.wire.proofs.dheader.cut.Reads as cut-reads
-use Rattle.reader.proofs.Rules.{mmembers-laws}
+use Rattle.reader.proofs.Rules.{mmembers_laws}
 
 abbrev E : ℕ → lts.Claims
 E t = (members-reads.Asked, members-reads.Learnt, ahead-reads.Asked, ahead-reads.Learnt, id-reads.Asked, id-reads.Learnt, ahead-value-at-reads.Asked, ahead-value-at-reads.Learnt, hint-after-reads.Asked, hint-after-reads.Learnt, cut-reads.Asked, cut-reads.Learnt, kind-found-reads.Asked, kind-found-reads.Learnt, found-value-at-reads.Asked, found-value-at-reads.Learnt, after-reads.Asked, after-reads.Learnt, opens-reads.Asked, opens-reads.Learnt, type-index-reads.Asked, type-index-reads.Learnt, as-nested-below t, as-nested.Post, back-to-reads.Asked, back-to-reads.Learnt, member::found-below t, member::found.Post, member::mmember-below t, member::mmember.Post, ending-reads.Asked, ending-reads.Learnt)
@@ -41,58 +41,58 @@ abbrev μ-loop : lts.decreases-loop
 pub closed : (t : ℕ) {M : Type 1} → lts.Closed (E t) (structure::mmembers-at t) structure::mmembers.Post M
 closed t =
     lts.spec (E t) (structure::mmembers-at t) structure::mmembers.Post Inv-loop μ-loop
-    (λ c κs. search (rules, mmembers-laws))  -- members-requires
+    (λ c κs. search (rules, mmembers_laws))  -- members-requires
     (λ c. looked_start _ _ _ _ _ _ _ _ c.members.ensures c.before.before.before.before.before.requires.1)  -- loop-holds
     (λ c κs. c.before.before.loop.invariant.hint.place)  -- ahead-requires
-    (λ c κs. search (rules, mmembers-laws))  -- id-requires
-    (λ c κs. search (rules, mmembers-laws))  -- value-at-requires
+    (λ c κs. search (rules, mmembers_laws))  -- id-requires
+    (λ c κs. search (rules, mmembers_laws))  -- value-at-requires
     (λ c κs. small_as c.before.id.ensures (c.before.before.before.ahead.ensures.small c.before.before.if2.true))  -- hint-after-requires
     (λ c. sum_fits _ _ _ (c.before.before.before.before.ahead.ensures.near c.before.before.before.if2.true) c.before.before.before.before.before.before.before.before.before.before.before.before.before.well_formed.1.1.0.1)  -- add-cut
-    (λ c κs. search (rules, mmembers-laws))  -- cut-requires
-    (λ c κs. search (rules, mmembers-laws))  -- kind-found-requires
-    (λ c. search (rules, mmembers-laws))  -- cast-found-value-at
-    (λ c κs. search (rules, mmembers-laws))  -- found-value-at-requires
+    (λ c κs. search (rules, mmembers_laws))  -- cut-requires
+    (λ c κs. search (rules, mmembers_laws))  -- kind-found-requires
+    (λ c. search (rules, mmembers_laws))  -- cast-found-value-at
+    (λ c κs. search (rules, mmembers_laws))  -- found-value-at-requires
     (λ c. found_next c.before.before.before.before.before.before.before.before.before.before.before.before.before.before.loop.invariant _ _ _ _ (found_taken _ _ _ _ _ _ _ _ _ _ _ refl c.before.before.before.before.before.kind-found.ensures c.before.before.before.before.before.before.before.before.before.id.ensures _ _ c.before.before.before.found-value-at.ensures.0 c.before.before.before.found-value-at.ensures.1) c.if3.true c.before.before.before.before.before.before.before.before.before.before.before.before.before.before.before.before.before.before.before.before.well_formed.1.1.1.1.0.0)  -- add-m
-    (λ c κs. search (rules, mmembers-laws))  -- after-requires
+    (λ c κs. search (rules, mmembers_laws))  -- after-requires
     (λ c. fewer c.before.before.before.before.before.before.before.before.before.before.before.before.before.if1.true c.after.ensures)  -- loop-less
     (λ c. found_quick c.before.before.before.before.before.before.before.before.before.before.before.before.before.before.before.loop.invariant (found_at _ _ _ c.before.before.before.before.before.before.before.before.before.value-at.ensures (c.before.before.before.before.before.before.before.before.before.before.before.before.ahead.ensures.found _ (c.before.before.before.before.before.before.before.before.before.before.before.before.before.before.before.loop.invariant.aligned c.before.before.before.before.before.before.before.before.before.before.before.before.before.if1.true) c.before.before.before.before.before.before.before.before.before.before.before.before.before.before.before.loop.invariant.hint c.before.before.before.before.before.before.before.before.before.before.before.if2.true)) (own_at _ _ _ _ _ c.before.before.before.before.before.before.before.before.before.value-at.ensures c.before.before.before.before.before.before.before.cut.ensures) _ _ (found_taken _ _ _ _ _ _ _ _ _ _ _ refl c.before.before.before.before.before.before.kind-found.ensures c.before.before.before.before.before.before.before.before.before.before.id.ensures _ _ c.before.before.before.before.found-value-at.ensures.0 c.before.before.before.before.found-value-at.ensures.1) c.before.before.before.before.before.before.before.before.before.before.before.before.before.if1.true c.before.if3.true c.after.ensures (hint_on _ _ _ _ c.before.before.before.before.before.before.before.before.before.before.before.before.ahead.result c.before.before.before.before.before.before.before.before.hint-after.ensures c.before.before.before.before.before.before.before.before.before.before.id.ensures (c.before.before.before.before.before.before.before.before.before.before.before.before.ahead.ensures.on _ c.before.before.before.before.before.before.before.before.before.before.before.before.before.before.before.loop.invariant.hint c.before.before.before.before.before.before.before.before.before.before.before.if2.true)))  -- loop-again
-    (λ c κs. search (rules, mmembers-laws))  -- opens-requires
-    (λ c κs. search (rules, mmembers-laws))  -- type-index-requires
-    (λ c. search (rules, mmembers-laws))  -- cast-as-nested
-    (λ c κs. search (rules, mmembers-laws, c.before.before.before.before.before.before.before.before.before.before.before.before.before.before.before.before.before.before.before.before.before.before.before.before.requires.0))  -- as-nested-requires
-    (λ c. search (rules, mmembers-laws))  -- enum-known-k
-    (λ c κs. search (rules, mmembers-laws))  -- after-requires-2
+    (λ c κs. search (rules, mmembers_laws))  -- opens-requires
+    (λ c κs. search (rules, mmembers_laws))  -- type-index-requires
+    (λ c. search (rules, mmembers_laws))  -- cast-as-nested
+    (λ c κs. search (rules, mmembers_laws, c.before.before.before.before.before.before.before.before.before.before.before.before.before.before.before.before.before.before.before.before.before.before.before.before.requires.0))  -- as-nested-requires
+    (λ c. search (rules, mmembers_laws))  -- enum-known-k
+    (λ c κs. search (rules, mmembers_laws))  -- after-requires-2
     (λ c. fewer c.before.before.before.before.before.before.before.before.before.before.before.before.before.before.before.before.before.before.before.before.before.before.before.if1.true c.after2.ensures)  -- loop-less-2
     (λ c. found_turn (found_still c.before.before.before.before.before.before.before.before.before.before.before.before.before.before.before.before.before.before.before.before.before.before.before.before.before.loop.invariant _ _ _ _ (found_taken _ _ _ _ _ _ _ _ _ _ _ refl c.before.before.before.before.before.before.before.before.before.before.before.before.before.before.before.before.kind-found.ensures c.before.before.before.before.before.before.before.before.before.before.before.before.before.before.before.before.before.before.before.before.id.ensures _ _ c.before.before.before.before.before.before.before.before.before.before.before.before.before.before.found-value-at.ensures.0 c.before.before.before.before.before.before.before.before.before.before.before.before.before.before.found-value-at.ensures.1) c.before.before.before.before.before.before.before.before.before.before.before.if3.false) (found_at _ _ _ c.before.before.before.before.before.before.before.before.before.before.before.before.before.before.before.before.before.before.before.value-at.ensures (c.before.before.before.before.before.before.before.before.before.before.before.before.before.before.before.before.before.before.before.before.before.before.ahead.ensures.found _ (c.before.before.before.before.before.before.before.before.before.before.before.before.before.before.before.before.before.before.before.before.before.before.before.before.before.loop.invariant.aligned c.before.before.before.before.before.before.before.before.before.before.before.before.before.before.before.before.before.before.before.before.before.before.before.if1.true) c.before.before.before.before.before.before.before.before.before.before.before.before.before.before.before.before.before.before.before.before.before.before.before.before.before.loop.invariant.hint c.before.before.before.before.before.before.before.before.before.before.before.before.before.before.before.before.before.before.before.before.before.if2.true)) (own_at _ _ _ _ _ c.before.before.before.before.before.before.before.before.before.before.before.before.before.before.before.before.before.before.before.value-at.ensures c.before.before.before.before.before.before.before.before.before.before.before.before.before.before.before.before.before.cut.ensures) c.before.before.before.before.before.before.before.before.before.before.before.before.before.before.before.before.before.before.before.before.before.before.before.if1.true (found_opened _ _ _ _ _ _ _ _ _ _ _ _ c.before.before.before.before.before.before.before.before.type-index.ensures.0 c.before.before.before.before.before.before.before.before.before.before.before.before.before.before.before.before.before.before.before.before.id.ensures c.before.before.before.before.before.before.before.before.before.before.before.before.before.before.before.before.kind-found.ensures _ c.before.before.before.before.before.before.before.before.before.before.opens.ensures c.before.before.before.before.before.before.before.before.before.if4.true _ _ _ c.before.before.before.before.before.before.as-nested.ensures) c.before.before.k.given.1 c.after2.ensures (hint_on _ _ _ _ c.before.before.before.before.before.before.before.before.before.before.before.before.before.before.before.before.before.before.before.before.before.before.ahead.result c.before.before.before.before.before.before.before.before.before.before.before.before.before.before.before.before.before.before.hint-after.ensures c.before.before.before.before.before.before.before.before.before.before.before.before.before.before.before.before.before.before.before.before.id.ensures (c.before.before.before.before.before.before.before.before.before.before.before.before.before.before.before.before.before.before.before.before.before.before.ahead.ensures.on _ c.before.before.before.before.before.before.before.before.before.before.before.before.before.before.before.before.before.before.before.before.before.before.before.before.before.loop.invariant.hint c.before.before.before.before.before.before.before.before.before.before.before.before.before.before.before.before.before.before.before.before.before.if2.true)))  -- loop-again-2
-    (λ c. search (rules, mmembers-laws))  -- enum-known-x
-    (λ c κs. search (rules, mmembers-laws))  -- back-to-requires
+    (λ c. search (rules, mmembers_laws))  -- enum-known-x
+    (λ c κs. search (rules, mmembers_laws))  -- back-to-requires
     (λ c. same_long (found_still c.before.before.before.before.before.before.before.before.before.before.before.before.before.before.before.before.before.before.before.before.before.before.before.before.before.loop.invariant _ _ _ _ (found_taken _ _ _ _ _ _ _ _ _ _ _ refl c.before.before.before.before.before.before.before.before.before.before.before.before.before.before.before.before.kind-found.ensures c.before.before.before.before.before.before.before.before.before.before.before.before.before.before.before.before.before.before.before.before.id.ensures _ _ c.before.before.before.before.before.before.before.before.before.before.before.before.before.before.found-value-at.ensures.0 c.before.before.before.before.before.before.before.before.before.before.before.before.before.before.found-value-at.ensures.1) c.before.before.before.before.before.before.before.before.before.before.before.if3.false).so c.before.before.before.before.before.before.as-nested.ensures)  -- same-length
     (λ c. found_short (found_still c.before.before.before.before.before.before.before.before.before.before.before.before.before.before.before.before.before.before.before.before.before.before.before.before.before.loop.invariant _ _ _ _ (found_taken _ _ _ _ _ _ _ _ _ _ _ refl c.before.before.before.before.before.before.before.before.before.before.before.before.before.before.before.before.kind-found.ensures c.before.before.before.before.before.before.before.before.before.before.before.before.before.before.before.before.before.before.before.before.id.ensures _ _ c.before.before.before.before.before.before.before.before.before.before.before.before.before.before.found-value-at.ensures.0 c.before.before.before.before.before.before.before.before.before.before.before.before.before.before.found-value-at.ensures.1) c.before.before.before.before.before.before.before.before.before.before.before.if3.false) (found_at _ _ _ c.before.before.before.before.before.before.before.before.before.before.before.before.before.before.before.before.before.before.before.value-at.ensures (c.before.before.before.before.before.before.before.before.before.before.before.before.before.before.before.before.before.before.before.before.before.before.ahead.ensures.found _ (c.before.before.before.before.before.before.before.before.before.before.before.before.before.before.before.before.before.before.before.before.before.before.before.before.before.loop.invariant.aligned c.before.before.before.before.before.before.before.before.before.before.before.before.before.before.before.before.before.before.before.before.before.before.before.if1.true) c.before.before.before.before.before.before.before.before.before.before.before.before.before.before.before.before.before.before.before.before.before.before.before.before.before.loop.invariant.hint c.before.before.before.before.before.before.before.before.before.before.before.before.before.before.before.before.before.before.before.before.before.if2.true)) (own_at _ _ _ _ _ c.before.before.before.before.before.before.before.before.before.before.before.before.before.before.before.before.before.before.before.value-at.ensures c.before.before.before.before.before.before.before.before.before.before.before.before.before.before.before.before.before.cut.ensures) c.before.before.before.before.before.before.before.before.before.before.before.before.before.before.before.before.before.before.before.before.before.before.before.if1.true (found_opened _ _ _ _ _ _ _ _ _ _ _ _ c.before.before.before.before.before.before.before.before.type-index.ensures.0 c.before.before.before.before.before.before.before.before.before.before.before.before.before.before.before.before.before.before.before.before.id.ensures c.before.before.before.before.before.before.before.before.before.before.before.before.before.before.before.before.kind-found.ensures _ c.before.before.before.before.before.before.before.before.before.before.opens.ensures c.before.before.before.before.before.before.before.before.before.if4.true _ _ _ c.before.before.before.before.before.before.as-nested.ensures) c.before.before.x.given.1 c.back_to.ensures)  -- returns
-    (λ c. search (rules, mmembers-laws))  -- enum-known-k-2
+    (λ c. search (rules, mmembers_laws))  -- enum-known-k-2
     (λ c. same_long (found_still c.before.before.before.before.before.before.before.before.before.before.before.before.before.before.before.before.before.before.before.before.before.before.before.before.loop.invariant _ _ _ _ (found_taken _ _ _ _ _ _ _ _ _ _ _ refl c.before.before.before.before.before.before.before.before.before.before.before.before.before.before.before.kind-found.ensures c.before.before.before.before.before.before.before.before.before.before.before.before.before.before.before.before.before.before.before.id.ensures _ _ c.before.before.before.before.before.before.before.before.before.before.before.before.before.found-value-at.ensures.0 c.before.before.before.before.before.before.before.before.before.before.before.before.before.found-value-at.ensures.1) c.before.before.before.before.before.before.before.before.before.before.if3.false).so c.before.before.before.before.before.as-nested.ensures)  -- same-length-2
     (λ c. found_refused (found_still c.before.before.before.before.before.before.before.before.before.before.before.before.before.before.before.before.before.before.before.before.before.before.before.before.loop.invariant _ _ _ _ (found_taken _ _ _ _ _ _ _ _ _ _ _ refl c.before.before.before.before.before.before.before.before.before.before.before.before.before.before.before.kind-found.ensures c.before.before.before.before.before.before.before.before.before.before.before.before.before.before.before.before.before.before.before.id.ensures _ _ c.before.before.before.before.before.before.before.before.before.before.before.before.before.found-value-at.ensures.0 c.before.before.before.before.before.before.before.before.before.before.before.before.before.found-value-at.ensures.1) c.before.before.before.before.before.before.before.before.before.before.if3.false) (found_at _ _ _ c.before.before.before.before.before.before.before.before.before.before.before.before.before.before.before.before.before.before.value-at.ensures (c.before.before.before.before.before.before.before.before.before.before.before.before.before.before.before.before.before.before.before.before.before.ahead.ensures.found _ (c.before.before.before.before.before.before.before.before.before.before.before.before.before.before.before.before.before.before.before.before.before.before.before.before.loop.invariant.aligned c.before.before.before.before.before.before.before.before.before.before.before.before.before.before.before.before.before.before.before.before.before.before.if1.true) c.before.before.before.before.before.before.before.before.before.before.before.before.before.before.before.before.before.before.before.before.before.before.before.before.loop.invariant.hint c.before.before.before.before.before.before.before.before.before.before.before.before.before.before.before.before.before.before.before.before.if2.true)) (own_at _ _ _ _ _ c.before.before.before.before.before.before.before.before.before.before.before.before.before.before.before.before.before.before.value-at.ensures c.before.before.before.before.before.before.before.before.before.before.before.before.before.before.before.before.cut.ensures) c.before.before.before.before.before.before.before.before.before.before.before.before.before.before.before.before.before.before.before.before.before.before.if1.true (found_opened _ _ _ _ _ _ _ _ _ _ _ _ c.before.before.before.before.before.before.before.type-index.ensures.0 c.before.before.before.before.before.before.before.before.before.before.before.before.before.before.before.before.before.before.before.id.ensures c.before.before.before.before.before.before.before.before.before.before.before.before.before.before.before.kind-found.ensures _ c.before.before.before.before.before.before.before.before.before.opens.ensures c.before.before.before.before.before.before.before.before.if4.true _ _ _ c.before.before.before.before.before.as-nested.ensures) c.before.k2.given.1)  -- returns-2
-    (λ c κs. search (rules, mmembers-laws))  -- value-at-requires-2
-    (λ c κs. search (rules, mmembers-laws, c.before.before.before.before.before.before.before.before.before.before.before.before.before.before.before.before.before.before.before.before.before.before.before.before.requires.0))  -- found-requires
-    (λ c. search (rules, mmembers-laws))  -- enum-known-k-3
-    (λ c κs. search (rules, mmembers-laws))  -- after-requires-3
+    (λ c κs. search (rules, mmembers_laws))  -- value-at-requires-2
+    (λ c κs. search (rules, mmembers_laws, c.before.before.before.before.before.before.before.before.before.before.before.before.before.before.before.before.before.before.before.before.before.before.before.before.requires.0))  -- found-requires
+    (λ c. search (rules, mmembers_laws))  -- enum-known-k-3
+    (λ c κs. search (rules, mmembers_laws))  -- after-requires-3
     (λ c. fewer c.before.before.before.before.before.before.before.before.before.before.before.before.before.before.before.before.before.before.before.before.before.before.before.if1.true c.after3.ensures)  -- loop-less-3
     (λ c. found_turn (found_still c.before.before.before.before.before.before.before.before.before.before.before.before.before.before.before.before.before.before.before.before.before.before.before.before.before.loop.invariant _ _ _ _ (found_taken _ _ _ _ _ _ _ _ _ _ _ refl c.before.before.before.before.before.before.before.before.before.before.before.before.before.before.before.before.kind-found.ensures c.before.before.before.before.before.before.before.before.before.before.before.before.before.before.before.before.before.before.before.before.id.ensures _ _ c.before.before.before.before.before.before.before.before.before.before.before.before.before.before.found-value-at.ensures.0 c.before.before.before.before.before.before.before.before.before.before.before.before.before.before.found-value-at.ensures.1) c.before.before.before.before.before.before.before.before.before.before.before.if3.false) (found_at _ _ _ c.before.before.before.before.before.before.before.before.value-at2.ensures (c.before.before.before.before.before.before.before.before.before.before.before.before.before.before.before.before.before.before.before.before.before.before.ahead.ensures.found _ (c.before.before.before.before.before.before.before.before.before.before.before.before.before.before.before.before.before.before.before.before.before.before.before.before.before.loop.invariant.aligned c.before.before.before.before.before.before.before.before.before.before.before.before.before.before.before.before.before.before.before.before.before.before.before.if1.true) c.before.before.before.before.before.before.before.before.before.before.before.before.before.before.before.before.before.before.before.before.before.before.before.before.before.loop.invariant.hint c.before.before.before.before.before.before.before.before.before.before.before.before.before.before.before.before.before.before.before.before.before.if2.true)) (own_at _ _ _ _ _ c.before.before.before.before.before.before.before.before.value-at2.ensures c.before.before.before.before.before.before.before.before.before.before.before.before.before.before.before.before.before.cut.ensures) c.before.before.before.before.before.before.before.before.before.before.before.before.before.before.before.before.before.before.before.before.before.before.before.if1.true c.before.before.before.before.before.before.found.ensures c.before.before.k3.given.1 c.after3.ensures (hint_on _ _ _ _ c.before.before.before.before.before.before.before.before.before.before.before.before.before.before.before.before.before.before.before.before.before.before.ahead.result c.before.before.before.before.before.before.before.before.before.before.before.before.before.before.before.before.before.before.hint-after.ensures c.before.before.before.before.before.before.before.before.before.before.before.before.before.before.before.before.before.before.before.before.id.ensures (c.before.before.before.before.before.before.before.before.before.before.before.before.before.before.before.before.before.before.before.before.before.before.ahead.ensures.on _ c.before.before.before.before.before.before.before.before.before.before.before.before.before.before.before.before.before.before.before.before.before.before.before.before.before.loop.invariant.hint c.before.before.before.before.before.before.before.before.before.before.before.before.before.before.before.before.before.before.before.before.before.if2.true)))  -- loop-again-3
-    (λ c. search (rules, mmembers-laws))  -- enum-known-x-2
-    (λ c κs. search (rules, mmembers-laws))  -- back-to-requires-2
+    (λ c. search (rules, mmembers_laws))  -- enum-known-x-2
+    (λ c κs. search (rules, mmembers_laws))  -- back-to-requires-2
     (λ c. same_long (found_still c.before.before.before.before.before.before.before.before.before.before.before.before.before.before.before.before.before.before.before.before.before.before.before.before.before.loop.invariant _ _ _ _ (found_taken _ _ _ _ _ _ _ _ _ _ _ refl c.before.before.before.before.before.before.before.before.before.before.before.before.before.before.before.before.kind-found.ensures c.before.before.before.before.before.before.before.before.before.before.before.before.before.before.before.before.before.before.before.before.id.ensures _ _ c.before.before.before.before.before.before.before.before.before.before.before.before.before.before.found-value-at.ensures.0 c.before.before.before.before.before.before.before.before.before.before.before.before.before.before.found-value-at.ensures.1) c.before.before.before.before.before.before.before.before.before.before.before.if3.false).so c.before.before.before.before.before.before.found.ensures)  -- same-length-3
     (λ c. found_short (found_still c.before.before.before.before.before.before.before.before.before.before.before.before.before.before.before.before.before.before.before.before.before.before.before.before.before.loop.invariant _ _ _ _ (found_taken _ _ _ _ _ _ _ _ _ _ _ refl c.before.before.before.before.before.before.before.before.before.before.before.before.before.before.before.before.kind-found.ensures c.before.before.before.before.before.before.before.before.before.before.before.before.before.before.before.before.before.before.before.before.id.ensures _ _ c.before.before.before.before.before.before.before.before.before.before.before.before.before.before.found-value-at.ensures.0 c.before.before.before.before.before.before.before.before.before.before.before.before.before.before.found-value-at.ensures.1) c.before.before.before.before.before.before.before.before.before.before.before.if3.false) (found_at _ _ _ c.before.before.before.before.before.before.before.before.value-at2.ensures (c.before.before.before.before.before.before.before.before.before.before.before.before.before.before.before.before.before.before.before.before.before.before.ahead.ensures.found _ (c.before.before.before.before.before.before.before.before.before.before.before.before.before.before.before.before.before.before.before.before.before.before.before.before.before.loop.invariant.aligned c.before.before.before.before.before.before.before.before.before.before.before.before.before.before.before.before.before.before.before.before.before.before.before.if1.true) c.before.before.before.before.before.before.before.before.before.before.before.before.before.before.before.before.before.before.before.before.before.before.before.before.before.loop.invariant.hint c.before.before.before.before.before.before.before.before.before.before.before.before.before.before.before.before.before.before.before.before.before.if2.true)) (own_at _ _ _ _ _ c.before.before.before.before.before.before.before.before.value-at2.ensures c.before.before.before.before.before.before.before.before.before.before.before.before.before.before.before.before.before.cut.ensures) c.before.before.before.before.before.before.before.before.before.before.before.before.before.before.before.before.before.before.before.before.before.before.before.if1.true c.before.before.before.before.before.before.found.ensures c.before.before.x2.given.1 c.back-to2.ensures)  -- returns-3
-    (λ c. search (rules, mmembers-laws))  -- enum-known-k-4
+    (λ c. search (rules, mmembers_laws))  -- enum-known-k-4
     (λ c. same_long (found_still c.before.before.before.before.before.before.before.before.before.before.before.before.before.before.before.before.before.before.before.before.before.before.before.before.loop.invariant _ _ _ _ (found_taken _ _ _ _ _ _ _ _ _ _ _ refl c.before.before.before.before.before.before.before.before.before.before.before.before.before.before.before.kind-found.ensures c.before.before.before.before.before.before.before.before.before.before.before.before.before.before.before.before.before.before.before.id.ensures _ _ c.before.before.before.before.before.before.before.before.before.before.before.before.before.found-value-at.ensures.0 c.before.before.before.before.before.before.before.before.before.before.before.before.before.found-value-at.ensures.1) c.before.before.before.before.before.before.before.before.before.before.if3.false).so c.before.before.before.before.before.found.ensures)  -- same-length-4
     (λ c. found_refused (found_still c.before.before.before.before.before.before.before.before.before.before.before.before.before.before.before.before.before.before.before.before.before.before.before.before.loop.invariant _ _ _ _ (found_taken _ _ _ _ _ _ _ _ _ _ _ refl c.before.before.before.before.before.before.before.before.before.before.before.before.before.before.before.kind-found.ensures c.before.before.before.before.before.before.before.before.before.before.before.before.before.before.before.before.before.before.before.id.ensures _ _ c.before.before.before.before.before.before.before.before.before.before.before.before.before.found-value-at.ensures.0 c.before.before.before.before.before.before.before.before.before.before.before.before.before.found-value-at.ensures.1) c.before.before.before.before.before.before.before.before.before.before.if3.false) (found_at _ _ _ c.before.before.before.before.before.before.before.value-at2.ensures (c.before.before.before.before.before.before.before.before.before.before.before.before.before.before.before.before.before.before.before.before.before.ahead.ensures.found _ (c.before.before.before.before.before.before.before.before.before.before.before.before.before.before.before.before.before.before.before.before.before.before.before.before.loop.invariant.aligned c.before.before.before.before.before.before.before.before.before.before.before.before.before.before.before.before.before.before.before.before.before.before.if1.true) c.before.before.before.before.before.before.before.before.before.before.before.before.before.before.before.before.before.before.before.before.before.before.before.before.loop.invariant.hint c.before.before.before.before.before.before.before.before.before.before.before.before.before.before.before.before.before.before.before.before.if2.true)) (own_at _ _ _ _ _ c.before.before.before.before.before.before.before.value-at2.ensures c.before.before.before.before.before.before.before.before.before.before.before.before.before.before.before.before.cut.ensures) c.before.before.before.before.before.before.before.before.before.before.before.before.before.before.before.before.before.before.before.before.before.before.if1.true c.before.before.before.before.before.found.ensures c.before.k4.given.1)  -- returns-4
-    (λ c κs. search (rules, mmembers-laws, c.before.before.before.before.before.before.before.before.before.before.before.requires.0))  -- mmember-requires
-    (λ c. search (rules, mmembers-laws))  -- enum-known-k-5
-    (λ c κs. search (rules, mmembers-laws))  -- after-requires-4
+    (λ c κs. search (rules, mmembers_laws, c.before.before.before.before.before.before.before.before.before.before.before.requires.0))  -- mmember-requires
+    (λ c. search (rules, mmembers_laws))  -- enum-known-k-5
+    (λ c κs. search (rules, mmembers_laws))  -- after-requires-4
     (λ c. fewer c.before.before.before.before.before.before.before.before.before.before.if1.true c.after4.ensures)  -- loop-less-4
     (λ c. looked_turn c.before.before.before.before.before.before.before.before.before.before.before.before.loop.invariant c.before.before.before.before.before.before.before.before.before.before.if1.true c.before.before.before.before.before.before.mmember.ensures c.before.before.k5.given.1 c.after4.ensures)  -- loop-again-4
-    (λ c. search (rules, mmembers-laws))  -- enum-known-x-3
+    (λ c. search (rules, mmembers_laws))  -- enum-known-x-3
     (λ c. same_long c.before.before.before.before.before.before.before.before.before.before.before.loop.invariant.so c.before.before.before.before.before.mmember.ensures)  -- same-length-5
     (λ c. looked_short c.before.before.before.before.before.before.before.before.before.before.before.loop.invariant c.before.before.before.before.before.before.before.before.before.if1.true c.before.before.before.before.before.mmember.ensures c.before.x3.given.1)  -- returns-5
-    (λ c. search (rules, mmembers-laws))  -- enum-known-k-6
+    (λ c. search (rules, mmembers_laws))  -- enum-known-k-6
     (λ c. same_long c.before.before.before.before.before.before.before.before.before.before.before.loop.invariant.so c.before.before.before.before.before.mmember.ensures)  -- same-length-6
     (λ c. looked_refused c.before.before.before.before.before.before.before.before.before.before.before.loop.invariant c.before.before.before.before.before.before.before.before.before.if1.true c.before.before.before.before.before.mmember.ensures c.before.k6.given.1)  -- returns-6
     (λ c κs. c.before.before.loop.invariant.hint)  -- ending-requires

@@ -9,7 +9,7 @@ use Rattle.reader.proofs.value.value.Reads as value::value
 use Rattle.book.proofs.member.id.Reads as id-reads
 use Rattle.book.proofs.member.type_index.Reads as type-index-reads
 use Rattle.wire.proofs.number.read_boolean.Reads as read-boolean-reads
-use Rattle.reader.proofs.Rules.{option-laws}
+use Rattle.reader.proofs.Rules.{option_laws}
 
 abbrev E : ℕ → lts.Claims
 E t = (member::mmember-below t, member::mmember.Post, read-boolean-reads.Asked, read-boolean-reads.Learnt, type-index-reads.Asked, type-index-reads.Learnt, id-reads.Asked, id-reads.Learnt, value::value-below t, value::value.Post)
@@ -17,21 +17,21 @@ E t = (member::mmember-below t, member::mmember.Post, read-boolean-reads.Asked, 
 pub closed : (t : ℕ) {M : Type 1} → lts.Closed (E t) (member::option-at t) member::option.Post M
 closed t =
     lts.spec (E t) (member::option-at t) member::option.Post
-    (λ c. search (rules, option-laws))  -- enum-told
-    (λ c κs. search (rules, option-laws))  -- mmember-requires
-    (λ c. search (rules, option-laws))  -- enum-told-2
-    (λ c κs. search (rules, option-laws))  -- read-boolean-requires
-    (λ c. search (rules, option-laws))  -- enum-known-x
-    (λ c. search (rules, option-laws))  -- enum-told-3
-    (λ c. search (rules, option-laws))  -- enum-known-present
-    (λ c κs. search (rules, option-laws))  -- type-index-requires
-    (λ c κs. search (rules, option-laws))  -- id-requires
-    (λ c. search (rules, option-laws))  -- cast-value
-    (λ c κs. search (rules, option-laws))  -- value-requires
-    (λ c. search (rules, option-laws))  -- same-length
-    (λ c. search (rules, option-laws))  -- returns
-    (λ c. search (rules, option-laws))  -- same-length-2
-    (λ c. search (rules, option-laws))  -- returns-2
-    (λ c. search (rules, option-laws))  -- returns-3
-    (λ c. search (rules, option-laws))  -- returns-4
-    (λ c. search (rules, option-laws))  -- returns-5
+    (λ c. search (rules, option_laws))  -- enum-told
+    (λ c κs. search (rules, option_laws))  -- mmember-requires
+    (λ c. search (rules, option_laws))  -- enum-told-2
+    (λ c κs. search (rules, option_laws))  -- read-boolean-requires
+    (λ c. search (rules, option_laws))  -- enum-known-x
+    (λ c. search (rules, option_laws))  -- enum-told-3
+    (λ c. search (rules, option_laws))  -- enum-known-present
+    (λ c κs. search (rules, option_laws))  -- type-index-requires
+    (λ c κs. search (rules, option_laws))  -- id-requires
+    (λ c. search (rules, option_laws))  -- cast-value
+    (λ c κs. search (rules, option_laws))  -- value-requires
+    (λ c. search (rules, option_laws))  -- same-length
+    (λ c. search (rules, option_laws))  -- returns
+    (λ c. search (rules, option_laws))  -- same-length-2
+    (λ c. search (rules, option_laws))  -- returns-2
+    (λ c. search (rules, option_laws))  -- returns-3
+    (λ c. search (rules, option_laws))  -- returns-4
+    (λ c. search (rules, option_laws))  -- returns-5

@@ -11,7 +11,7 @@ use Rattle.book.proofs.member.head_at.Reads as head-at-reads
 use Rattle.reader.proofs.plain.list.Reads as list-reads
 use Rattle.table.proofs.rows.row_at.Reads as row-at-reads
 use Rattle.wire.proofs.cursor.Cursor.new.Reads as new-reads
-use Rattle.reader.proofs.Rules.{rest-laws}
+use Rattle.reader.proofs.Rules.{rest_laws}
 
 abbrev E : ℕ → lts.Claims
 E t = (head-at-reads.Asked, head-at-reads.Learnt, member::option-below t, member::option.Post, list-reads.Asked, list-reads.Learnt, row-at-reads.Asked, row-at-reads.Learnt, new-reads.Asked, new-reads.Learnt, value::value-below t, value::value.Post)
@@ -19,18 +19,18 @@ E t = (head-at-reads.Asked, head-at-reads.Learnt, member::option-below t, member
 pub closed : (t : ℕ) {M : Type 1} → lts.Closed (E t) (rest_at t) rest.Post M
 closed t =
     lts.spec (E t) (rest_at t) rest.Post
-    (λ c κs. search (rules, rest-laws))  -- head-at-requires
-    (λ c κs. search (rules, rest-laws))  -- option-requires
-    (λ c. search (rules, rest-laws))  -- same-length
-    (λ c. search (rules, rest-laws))  -- returns
-    (λ c. search (rules, rest-laws))  -- cast-i
-    (λ c κs. search (rules, rest-laws))  -- list-requires
-    (λ c κs. search (rules, rest-laws))  -- row-at-requires
-    (λ c κs. search (rules, rest-laws))  -- new-requires
+    (λ c κs. search (rules, rest_laws))  -- head-at-requires
+    (λ c κs. search (rules, rest_laws))  -- option-requires
+    (λ c. search (rules, rest_laws))  -- same-length
+    (λ c. search (rules, rest_laws))  -- returns
+    (λ c. search (rules, rest_laws))  -- cast-i
+    (λ c κs. search (rules, rest_laws))  -- list-requires
+    (λ c κs. search (rules, rest_laws))  -- row-at-requires
+    (λ c κs. search (rules, rest_laws))  -- new-requires
     (λ c. rows_next _ _ _ _ _ _ _ _ _ _ c.before.before.before.before.before.before.list.ensures c.before.before.before.if2.true c.before.before.before.before.before.before.before.before.before.before.before.before.before.before.before.well_formed.1.1.1.1.0.0)  -- add-t24
     (λ c. rows_past _ _ _ _ _ _ _ _ _ _ c.before.before.before.before.before.before.list.ensures c.before.before.before.if2.true c.before.before.before.before.before.before.before.before.before.before.before.before.before.before.before.well_formed.1.1.1.1.0.0 _ c.before.row_at.ensures)  -- add-t25
-    (λ c. search (rules, rest-laws))  -- same-length-2
-    (λ c. search (rules, rest-laws))  -- returns-2
-    (λ c κs. search (rules, rest-laws))  -- value-requires
-    (λ c. search (rules, rest-laws))  -- same-length-3
-    (λ c. search (rules, rest-laws))  -- returns-3
+    (λ c. search (rules, rest_laws))  -- same-length-2
+    (λ c. search (rules, rest_laws))  -- returns-2
+    (λ c κs. search (rules, rest_laws))  -- value-requires
+    (λ c. search (rules, rest_laws))  -- same-length-3
+    (λ c. search (rules, rest_laws))  -- returns-3

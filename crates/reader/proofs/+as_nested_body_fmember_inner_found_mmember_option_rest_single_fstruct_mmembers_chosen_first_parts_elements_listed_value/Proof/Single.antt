@@ -5,7 +5,7 @@ use Rattle.reader.proofs.single.Reads as single
 use Rattle.reader.proofs.+as_nested_body_fmember_inner_found_mmember_option_rest_single_fstruct_mmembers_chosen_first_parts_elements_listed_value.Lts-single as lts
 use Rattle.reader.proofs.+as_nested_body_fmember_inner_found_mmember_option_rest_single_fstruct_mmembers_chosen_first_parts_elements_listed_value.Proof.Base.{single-at, as-nested-below}
 use Rattle.reader.proofs.as_nested.Reads as as-nested
-use Rattle.reader.proofs.Rules.{single-laws}
+use Rattle.reader.proofs.Rules.{single_laws}
 
 abbrev E : ℕ → lts.Claims
 E t = (as-nested-below t, as-nested.Post)
@@ -13,6 +13,6 @@ E t = (as-nested-below t, as-nested.Post)
 pub closed : (t : ℕ) {M : Type 1} → lts.Closed (E t) (single-at t) single.Post M
 closed t =
     lts.spec (E t) (single-at t) single.Post
-    (λ c κs. search (rules, single-laws))  -- as-nested-requires
-    (λ c. search (rules, single-laws))  -- same-length
-    (λ c. search (rules, single-laws))  -- returns
+    (λ c κs. search (rules, single_laws))  -- as-nested-requires
+    (λ c. search (rules, single_laws))  -- same-length
+    (λ c. search (rules, single_laws))  -- returns

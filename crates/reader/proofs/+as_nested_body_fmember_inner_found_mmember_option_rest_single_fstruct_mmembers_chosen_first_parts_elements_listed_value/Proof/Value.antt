@@ -14,7 +14,7 @@ use Rattle.kinds.proofs.unsupported_member.Reads as unsupported-member-reads
 use Rattle.values.proofs.quick.any_at.Reads as any-at-reads
 use Rattle.values.proofs.scalar.scalar.Reads as scalar-reads
 use Rattle.wire.proofs.cursor.Cursor.new.Reads as new-reads
-use Rattle.reader.proofs.Rules.{value-laws}
+use Rattle.reader.proofs.Rules.{value_laws}
 
 abbrev E : ℕ → lts.Claims
 E t = (place-reads.Asked, place-reads.Learnt, kind-at-reads.Asked, kind-at-reads.Learnt, unsupported-member-reads.Asked, unsupported-member-reads.Learnt, opens-reads.Asked, opens-reads.Learnt, as-nested-below t, as-nested.Post, value::listed-below t, value::listed.Post, read-as-reads.Asked, read-as-reads.Learnt, any-at-reads.Asked, any-at-reads.Learnt, new-reads.Asked, new-reads.Learnt, scalar-reads.Asked, scalar-reads.Learnt)
@@ -22,24 +22,24 @@ E t = (place-reads.Asked, place-reads.Learnt, kind-at-reads.Asked, kind-at-reads
 pub closed : (t : ℕ) {M : Type 1} → lts.Closed (E t) (value::value-at t) value::value.Post M
 closed t =
     lts.spec (E t) (value::value-at t) value::value.Post
-    (λ c κs. search (rules, value-laws))  -- place-requires
-    (λ c κs. search (rules, value-laws))  -- kind-at-requires
-    (λ c. search (rules, value-laws))  -- returns
-    (λ c κs. search (rules, value-laws))  -- unsupported-member-requires
-    (λ c. search (rules, value-laws))  -- returns-2
-    (λ c κs. search (rules, value-laws))  -- opens-requires
-    (λ c κs. search (rules, value-laws))  -- as-nested-requires
-    (λ c. search (rules, value-laws))  -- same-length
-    (λ c. search (rules, value-laws))  -- returns-3
-    (λ c κs. search (rules, value-laws))  -- listed-requires
-    (λ c. search (rules, value-laws))  -- same-length-2
-    (λ c. search (rules, value-laws))  -- returns-4
-    (λ c κs. search (rules, value-laws))  -- read-as-requires
-    (λ c κs. search (rules, value-laws))  -- any-at-requires
-    (λ c κs. search (rules, value-laws))  -- new-requires
-    (λ c. search (rules, value-laws))  -- add-t28
-    (λ c. search (rules, value-laws))  -- same-length-3
-    (λ c. search (rules, value-laws))  -- returns-5
-    (λ c κs. search (rules, value-laws))  -- scalar-requires
-    (λ c. search (rules, value-laws))  -- same-length-4
-    (λ c. search (rules, value-laws))  -- returns-6
+    (λ c κs. search (rules, value_laws))  -- place-requires
+    (λ c κs. search (rules, value_laws))  -- kind-at-requires
+    (λ c. search (rules, value_laws))  -- returns
+    (λ c κs. search (rules, value_laws))  -- unsupported-member-requires
+    (λ c. search (rules, value_laws))  -- returns-2
+    (λ c κs. search (rules, value_laws))  -- opens-requires
+    (λ c κs. search (rules, value_laws))  -- as-nested-requires
+    (λ c. search (rules, value_laws))  -- same-length
+    (λ c. search (rules, value_laws))  -- returns-3
+    (λ c κs. search (rules, value_laws))  -- listed-requires
+    (λ c. search (rules, value_laws))  -- same-length-2
+    (λ c. search (rules, value_laws))  -- returns-4
+    (λ c κs. search (rules, value_laws))  -- read-as-requires
+    (λ c κs. search (rules, value_laws))  -- any-at-requires
+    (λ c κs. search (rules, value_laws))  -- new-requires
+    (λ c. search (rules, value_laws))  -- add-t28
+    (λ c. search (rules, value_laws))  -- same-length-3
+    (λ c. search (rules, value_laws))  -- returns-5
+    (λ c κs. search (rules, value_laws))  -- scalar-requires
+    (λ c. search (rules, value_laws))  -- same-length-4
+    (λ c. search (rules, value_laws))  -- returns-6

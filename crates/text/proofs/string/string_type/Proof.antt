@@ -1,5 +1,5 @@
 -- `text::string::string_type` meets its contract: one law for each way through. Assumes nothing.
-use Rattle.text.proofs.Strings.{string-laws}
+use Rattle.text.proofs.Strings.{string_laws}
 use borrow.Author.Rules.{rules}
 use Rattle.text.proofs.string.string_type.Statement.{statement}
 use Rattle.text.proofs.string.string_type.Tie as tie
@@ -23,13 +23,13 @@ bytes-here-requires-2 : tie.Need-bytes-here-requires-2
 bytes-here-requires-2 c κs = search rules
 
 returns : tie.Need-returns
-returns c = search (rules, string-laws)
+returns c = search (rules, string_laws)
 
 returns-2 : tie.Need-returns-2
-returns-2 c = search (rules, string-laws)
+returns-2 c = search (rules, string_laws)
 
 returns-3 : tie.Need-returns-3
-returns-3 c = search (rules, string-laws)
+returns-3 c = search (rules, string_laws)
 
 pub string-type-spec : {M : Type 1} → statement M
 string-type-spec =

@@ -2,7 +2,7 @@
 use mathlib.Core.Path.{◌≡◌}
 use borrow.Author.Rules.{rules}
 use Rattle.text.specs.Text.{read_units, units_here}
-use Rattle.text.proofs.Strings.{resumed, units-laws}
+use Rattle.text.proofs.Strings.{resumed, units_laws}
 use Rattle.text.proofs.string.units_here.Statement.{statement}
 use Rattle.text.proofs.string.units_here.Tie as tie
 
@@ -13,52 +13,52 @@ abbrev decreases-loop : tie.decreases-loop
 decreases-loop s set n start c₀ state₀ left₀ c state left = left
 
 loop-holds : tie.Need-loop-init invariant-loop decreases-loop
-loop-holds c = search (rules, units-laws)
+loop-holds c = search (rules, units_laws)
 
 read-number-requires : tie.Need-read-number-requires invariant-loop decreases-loop
-read-number-requires c κs = search (rules, units-laws)
+read-number-requires c κs = search (rules, units_laws)
 
 enum-known-unit : tie.Need-enum-known-unit invariant-loop decreases-loop
-enum-known-unit c = search (rules, units-laws)
+enum-known-unit c = search (rules, units_laws)
 
 returns : tie.Need-returns invariant-loop decreases-loop
-returns c = search (rules, units-laws)
+returns c = search (rules, units_laws)
 
 enum-known-unit-2 : tie.Need-enum-known-unit-2 invariant-loop decreases-loop
-enum-known-unit-2 c = search (rules, units-laws)
+enum-known-unit-2 c = search (rules, units_laws)
 
 cast-next-unit : tie.Need-overflow-cast-next-unit invariant-loop decreases-loop
-cast-next-unit c = search (rules, units-laws)
+cast-next-unit c = search (rules, units_laws)
 
 next-unit-requires : tie.Need-next-unit-requires invariant-loop decreases-loop
-next-unit-requires c κs = search (rules, units-laws)
+next-unit-requires c κs = search (rules, units_laws)
 
 sub-left : tie.Need-overflow-sub-left invariant-loop decreases-loop
-sub-left c = search (rules, units-laws)
+sub-left c = search (rules, units_laws)
 
 loop-less : tie.Need-loop-smaller invariant-loop decreases-loop
-loop-less c = search (rules, units-laws)
+loop-less c = search (rules, units_laws)
 
 loop-again : tie.Need-loop-preserved invariant-loop decreases-loop
-loop-again c = search (rules, units-laws)
+loop-again c = search (rules, units_laws)
 
 enum_told : tie.Need-enum-told invariant-loop decreases-loop
-enum_told c = search (rules, units-laws)
+enum_told c = search (rules, units_laws)
 
 enum-told-2 : tie.Need-enum-told-2 invariant-loop decreases-loop
-enum-told-2 c = search (rules, units-laws)
+enum-told-2 c = search (rules, units_laws)
 
 enum-told-3 : tie.Need-enum-told-3 invariant-loop decreases-loop
-enum-told-3 c = search (rules, units-laws)
+enum-told-3 c = search (rules, units_laws)
 
 returns-2 : tie.Need-returns-2 invariant-loop decreases-loop
-returns-2 c = search (rules, units-laws)
+returns-2 c = search (rules, units_laws)
 
 returns-3 : tie.Need-returns-3 invariant-loop decreases-loop
-returns-3 c = search (rules, units-laws)
+returns-3 c = search (rules, units_laws)
 
 returns-4 : tie.Need-returns-4 invariant-loop decreases-loop
-returns-4 c = search (rules, units-laws)
+returns-4 c = search (rules, units_laws)
 
 pub units-here-spec : {M : Type 1} → statement M
 units-here-spec =
