@@ -26,7 +26,7 @@ def target(name):
         return TYPES[name] or name
     if name[0].isupper() or "::" in name or name[0] in "+μ◌":
         return name
-    words = re.sub(r"(?<=[a-z0-9])[A-Z]", lambda m: "_" + m[0].lower(), name)
+    words = re.sub(r"(?<=[A-Za-z0-9])[A-Z]", lambda m: "_" + m[0].lower(), name)
     return words.replace("-", "_")
 
 
