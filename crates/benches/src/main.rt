@@ -1,5 +1,7 @@
 // Document 01's bench examples, 1 to 13, run through the library, and each number of its table reached (4 never is).
 // The file stdout is written from document 01, and each row's place from order 7 of document 02.
+#![tactic(auto)]
+
 use libc::STDOUT_FILENO;
 use sinotayam::answer::Status;
 use wire::settings::Mode;

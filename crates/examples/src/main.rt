@@ -1,6 +1,8 @@
 // Document 01's rules of a book, run, with what order 2 tells of one that is broken: example 1's book, for each rule the smallest books that break it
 // alone, for each field that breaks two rules and each two neighbouring places one, example 1's book cut after each byte, and the books at the
 // bounds. Each line is a book's name, what is told of it (a record's number, 65535 for the head, and the reason's), and its bytes where they are few.
+#![tactic(auto)]
+
 mod books;
 
 ghost use Rattle.std.specs.Prelude.{◌≡◌, ◌+◌, ◌*◌};

@@ -1,5 +1,7 @@
 // The type check: whether a reading of a type can meet nothing that is the type's own fault. The records are measured from the lowest up, by the
 // longest chain of structures, enums and unions from each.
+#![tactic(auto)]
+
 ghost use Rattle.std.specs.Prelude.{◌≡◌, ◌≤◌, ◌<◌, max, length, get_or};
 ghost use Rattle.book.specs.Places.{type_at, types_by};
 ghost use Rattle.fit.specs.Fit.{links_of};

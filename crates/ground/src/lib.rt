@@ -1,5 +1,7 @@
 // What every floor of the house stands on. Most of it is in specs/ and proofs/: how a definition picks a case, ranges, and the law
 // that turns one computed test into a rule of every number of a range.
+#![tactic(auto)]
+
 ghost use Rattle.std.specs.Prelude.{◌≡◌, ◌<◌};
 ghost use Rattle.ground.specs.Choice.{◌‥◌, within};
 

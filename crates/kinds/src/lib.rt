@@ -1,5 +1,7 @@
 // What is known of a type by its kind alone: a table of 28 entries in three columns, and the kinds that a rule names. A look-up is by an arm for each kind, which names its
 // entry: a column that is indexed as it runs is built on the stack at each use (`element_of`, which is asked once for a list).
+#![tactic(auto)]
+
 ghost use Rattle.std.specs.Prelude.{◌≡◌};
 ghost use Rattle.kinds.specs.Kinds.{align_of, element_size_of, stored_of, is_primitive, is_signed, unsupported_member, unsupported_element, opens, stored_by_bound, bitmask_stored};
 

@@ -1,5 +1,7 @@
 // The reading of a value: the Rust's XTypesDeserializer. Its functions call each other in a cycle, and the depth falls at each value
 // that is opened.
+#![tactic(auto)]
+
 ghost use Rattle.book.specs.Places.{member_at, type_at, types_by};
 ghost use Rattle.book.specs.Asked.{is_structure, is_mutable};
 ghost use Rattle.table.specs.Rows.{room};

@@ -5,6 +5,8 @@
 // The stored list begins with 200 messages of Cyclone DDS and Fast-CDR, whose rows are known from the samples that they wrote: 102 entries in
 // the crate's mode, and all 200 in the standard's. The entries after them, and what is said of them, `compare/sample` wrote (no words after it)
 // from the crate dust_dds and from the rules in plain Rust; the port took no part in it.
+#![tactic(auto)]
+
 use book::bytes::{byte_at, pair_at, quad_at};
 use libc::STDOUT_FILENO;
 use table::rows::WIDTH;

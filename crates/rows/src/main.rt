@@ -1,4 +1,6 @@
 // Reads one case from standard input, and prints the answer and its rows.
+#![tactic(auto)]
+
 use cases::input::{Reply, read_case};
 use libc::{STDERR_FILENO, STDOUT_FILENO};
 

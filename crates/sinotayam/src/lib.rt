@@ -1,5 +1,7 @@
 // Reading a message of a book's type into value rows. Nothing is required of a book, a root, a message or a table: every input has its
 // answer, and the answer settles every word of the lent table.
+#![tactic(auto)]
+
 ghost use Rattle.book.specs.Places.{types_by};
 ghost use Rattle.table.specs.Rows.{capacity};
 ghost use Rattle.sinotayam.specs.Answer.{Settled};

@@ -1,0 +1,13 @@
+-- `book::labels::first_with`. The invariant: the first of the run that holds the label is the first of all.
+use mathlib.Core.Path.{◌≡◌}
+use mir.Syntax.{w32}
+use mir.Val.{to_z}
+use Rattle.book.specs.Places.{listed, type_at}
+use Rattle.book.specs.Labels.{first_with}
+use Rattle.book.proofs.labels.first_with.Given as goal
+
+abbrev pub invariant-loop-ms : goal.invariant-loop-ms
+invariant-loop-ms l = first_with (to_z w32 l.d) (listed l.b l.ms) ≡ first_with (to_z w32 l.d) (type_at l.b l.at).members
+
+abbrev pub decreases-loop-ms : goal.decreases-loop-ms
+decreases-loop-ms l = l.ms.left

@@ -1,0 +1,17 @@
+-- `book::member::members` is the run of all members of a type.
+use Rattle.book.proofs.Places.{is_inside, start_there, start_cut}
+use native.Mathlib.Omega.{arith}
+use borrow.Author.Rules.{rules}
+use Rattle.book.proofs.member.members.Goals as goal
+
+pub overflow_add-result : goal.overflow_add-result
+overflow_add-result c = omega (arith, is_inside _ _ _ _ c.is_there.ensures c.if-is_there.true)
+
+pub pair_there-requires : goal.pair_there-requires
+pair_there-requires c = omega (arith, is_inside _ _ _ _ c.is_there.ensures c.if-is_there.true)
+
+pub returns-then-is_there : goal.returns-then-is_there
+returns-then-is_there c = search (rules, start_there)
+
+pub returns : goal.returns
+returns c = search (rules, start_cut)

@@ -1,0 +1,18 @@
+use Rattle.sinotayam.proofs.Packing.{fault_none, fault_mul, fault_add, fault_cast, fault_word_law}
+use borrow.Author.Rules.{rules}
+use Rattle.sinotayam.proofs.c.sinotayam_fault.Goals as goal
+
+pub overflow_mul-result : goal.overflow_mul-result
+overflow_mul-result c = record { fits = search (rules, fault_mul) }
+
+pub overflow_add-result : goal.overflow_add-result
+overflow_add-result c = record { fits = search (rules, fault_add) }
+
+pub overflow_cast-result : goal.overflow_cast-result
+overflow_cast-result c = record { fits = search (rules, fault_cast) }
+
+pub returns-in-Nothing : goal.returns-in-Nothing
+returns-in-Nothing c = search (rules, fault_none)
+
+pub returns-in-In : goal.returns-in-In
+returns-in-In c = search (rules, fault_word_law)

@@ -1,0 +1,31 @@
+use Rattle.values.proofs.Quickly.{is_free, number_so, quick_not, quick_kind}
+use borrow.Author.Rules.{rules}
+use Rattle.kinds.proofs.align_of.Reads as align-of-reads
+use Rattle.kinds.proofs.stored_of.Reads as stored-of-reads
+use Rattle.table.proofs.rows.is_full.Reads as is-full-reads
+use Rattle.values.proofs.quick.boolean_at.Reads as boolean-at-reads
+use Rattle.values.proofs.quick.is_number.Reads as is-number-reads
+use Rattle.values.proofs.quick.number_at.Reads as number-at-reads
+use Rattle.values.proofs.quick.text_at.Reads as text-at-reads
+use Rattle.values.proofs.quick.any_at.Goals as goal
+
+pub returns-then-is_full : goal.returns-then-is_full
+returns-then-is_full c = search (rules, is_free, quick_not, quick_kind)
+
+pub boolean_at-requires : goal.boolean_at-requires
+boolean_at-requires c = search (rules, is_free, quick_not, quick_kind)
+
+pub text_at-requires : goal.text_at-requires
+text_at-requires c = search (rules, is_free, quick_not, quick_kind)
+
+pub number_at-requires : goal.number_at-requires
+number_at-requires c = (search (rules, is_free), number_so _ _ c.is_number.ensures c.if-is_number.true, search rules, search rules)
+
+pub returns-in-1 : goal.returns-in-1
+returns-in-1 c = search (rules, is_free, quick_not, quick_kind)
+
+pub returns-in-16 : goal.returns-in-16
+returns-in-16 c = search (rules, is_free, quick_not, quick_kind)
+
+pub returns-else-is_number : goal.returns-else-is_number
+returns-else-is_number c = search (rules, is_free, quick_not, quick_kind)
