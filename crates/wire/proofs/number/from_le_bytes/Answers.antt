@@ -2,20 +2,14 @@ use Rattle.std.proofs.Common.{ℕ, ◌+◌, ◌-◌, ◌*◌, ◌^◌, ◌<◌, 
 use Rattle.wire.proofs.Digits.{more_below, more_fits, le_step, number_none, start_below, ended_below}
 use Rattle.wire.proofs.number.from_le_bytes.Goals as goal
 
--- what v holds has room for one byte more
-room : (c : tie.In-loop invariant-loop decreases-loop) (b : ℕ) → b < 256 → c.before.loop.v * 256 + b < 2 ^ 64
-room c b h =
-    more_fits c.before.before.before.args.width c.before.loop.left c.before.loop.v b c.loop-test.true
-    c.before.before.before.requires.1 c.before.loop.invariant.2 h
-
 pub loop-left-init : goal.loop-left-init
 loop-left-init c = (refl, search rules, start_below _)
 
 pub overflow_mul-v : goal.overflow_mul-v
-overflow_mul-v c = omega (arith, room c 0 (lit< tt))
+overflow_mul-v c = omega (arith, more_fits c.args.width c.loop-left.left c.loop-left.v 0 c.loop-left-test.true c.requires.1 c.loop-left.invariant.2 (lit< tt))
 
 pub overflow_add-v : goal.overflow_add-v
-overflow_add-v c = omega (arith, room c.before c.wide.result c.wide.ensures.1)
+overflow_add-v c = omega (arith, more_fits c.args.width c.loop-left.left c.loop-left.v c.wide.result c.loop-left-test.true c.requires.1 c.loop-left.invariant.2 c.wide.ensures.1)
 
 pub loop-left-preserved : goal.loop-left-preserved
 loop-left-preserved c = let i = c.loop-left in
