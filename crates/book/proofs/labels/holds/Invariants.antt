@@ -9,7 +9,7 @@ use Rattle.book.specs.Labels.{is_in}
 use Rattle.book.proofs.labels.holds.Given as goal
 
 abbrev pub invariant-loop-i : goal.invariant-loop-i
-invariant-loop-i l = is_in (to_z w32 l.d) (past l.i (member_at l.b l.p).labels) ≡ is_in (to_z w32 l.d) (member_at l.b l.p).labels
+invariant-loop-i l = is_in l.d (past l.i (member_at l.b l.p).labels) ≡ is_in l.d (member_at l.b l.p).labels
 
 abbrev pub decreases-loop-i : goal.decreases-loop-i
 decreases-loop-i l = l.n - l.i

@@ -5,4 +5,4 @@ use Rattle.wire.proofs.Words.{same_bits}
 use Rattle.book.proofs.labels.label_is.Goals as goal
 
 pub returns : goal.returns
-returns c = same_bits _ _ c.ranges.d (record { sfits = c.label-l.type-inv }) ∙ ap (same_z _) c.label-l.ensures
+returns c = same_bits _ _ c.ranges.d (record { sfits = c.label-l.type_inv }) ∙ ap (same_z _) c.label-l.ensures

@@ -10,7 +10,7 @@ pub returns-then-label_count-i : goal.returns-then-label_count-i
 returns-then-label_count-i c = label_none _ _ _ c.label_count.ensures.0 c.if-label_count-i.true
 
 pub returns : goal.returns
-returns c = to_z-of_z {w = w32} {z = c.as_i32.result} (record { sfits = c.as_i32.type-inv })
+returns c = to_z-of_z {w = w32} {z = c.as_i32.result} (record { sfits = c.as_i32.type_inv })
     ∙ c.as_i32.ensures
     ∙ ap (to_z w32) c.quad_at.ensures
     ∙ label_here _ _ _ c.label_count.ensures.0 c.if-label_count-i.false
