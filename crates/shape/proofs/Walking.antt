@@ -139,7 +139,7 @@ members_order : {types : List BookType} {s : List ℕ} {ms : List Member} {rs : 
 unfolding direct
 members_order x zero = none_left
 members_order shape.no_member (suc n) = none_left
-members_order (shape.member shape.absent x) (suc n) = without (members_order x (suc n))
+members_order {types = types} {s = s} (shape.member {m = m} {ms = ms} {ss = ss} shape.absent x) (suc n) = without (members_order {types = types} {s = s} {ms = ms} {rs = ss} x (suc n))
 members_order (shape.member {ss = ss} (shape.present v) x) (suc n) = direct_step n ss (value_whole v) (members_order x n)
 
 -- ---- every member's value, and nothing left over
@@ -171,6 +171,7 @@ none_held types s (m ∷ ms) = shape.member shape.absent (none_held types s ms)
 
 -- a union's rows are those of its members too, all but two of which are absent
 one_held : (types : List BookType) (s : List ℕ) (ms : List Member) (m : Member) (rs : List Row) → OneOf m ms → Held types s m rs → Members types s ms rs
+one_held types s [] m rs o h = elim o [ ]
 one_held types s (x ∷ xs) m rs (Memᴰ.head e) h = rw append-nil at (shape.member (rw e at h) (none_held types s xs))
 one_held types s (x ∷ xs) m rs (Memᴰ.tail o) h = shape.member shape.absent (one_held types s xs m rs o h)
 
