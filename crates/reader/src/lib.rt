@@ -63,7 +63,7 @@ pub fn top_level_type(
 
 // Opens so many structures, enums or unions of one type, one after the other: a member's alone, or a list's. Of each the kind, the depth
 // and the room are asked in this order. Its row is written first, so that nothing of it has to be kept, and counts the rows beneath when they are there.
-#[cycle(as_nested_body_fmember_inner_found_mmember_option_rest_single_fstruct_mmembers_chosen_first_parts_elements_listed_value)]
+#[cycle(reading)]
 pub fn as_nested(
     book: &[u8],
     index: &[u32],
@@ -135,7 +135,7 @@ pub fn as_nested(
 
 // One value alone. A slice is handed over by its address, and whoever calls `as_nested` keeps its slices in memory for that: so `fmember`, which the compiler takes
 // into the structure's loop, calls this.
-#[cycle(as_nested_body_fmember_inner_found_mmember_option_rest_single_fstruct_mmembers_chosen_first_parts_elements_listed_value)]
+#[cycle(reading)]
 pub fn single(
     book: &[u8],
     index: &[u32],
@@ -154,7 +154,7 @@ pub fn single(
 }
 
 // What stands beneath the row of a value whose type is at `at`: an enum's number; else what begins it, its members, and what ends it.
-#[cycle(as_nested_body_fmember_inner_found_mmember_option_rest_single_fstruct_mmembers_chosen_first_parts_elements_listed_value)]
+#[cycle(reading)]
 pub fn body(
     book: &[u8],
     index: &[u32],
@@ -201,7 +201,7 @@ pub fn body(
 }
 
 // The members of a structure that is not Mutable, or of a union.
-#[cycle(as_nested_body_fmember_inner_found_mmember_option_rest_single_fstruct_mmembers_chosen_first_parts_elements_listed_value)]
+#[cycle(reading)]
 pub fn inner(
     book: &[u8],
     index: &[u32],
@@ -225,7 +225,7 @@ pub fn inner(
 
 // A member of a Final or Appendable type: most are taken where they stand, or opened. That its 9 bytes before its labels are there is asked once, and then of none
 // of them.
-#[cycle(as_nested_body_fmember_inner_found_mmember_option_rest_single_fstruct_mmembers_chosen_first_parts_elements_listed_value)]
+#[cycle(reading)]
 pub fn fmember(
     book: &[u8],
     index: &[u32],
@@ -259,7 +259,7 @@ pub fn fmember(
 
 // A member of a Final or Appendable type that `fmember` did not take or open: an optional one, a list, or one whose bytes in the book are not all there. The
 // compiler takes this into the structure's loop; a list of numbers is taken from here.
-#[cycle(as_nested_body_fmember_inner_found_mmember_option_rest_single_fstruct_mmembers_chosen_first_parts_elements_listed_value)]
+#[cycle(reading)]
 pub fn rest(
     book: &[u8],
     index: &[u32],

@@ -19,7 +19,7 @@ use wire::number::Boolean;
 use wire::settings::{Settings, Version};
 
 // Serialization rules 19 and 20: an optional member of a Final or Appendable type. XCDR1 looks it up, XCDR2 asks a boolean.
-#[cycle(as_nested_body_fmember_inner_found_mmember_option_rest_single_fstruct_mmembers_chosen_first_parts_elements_listed_value)]
+#[cycle(reading)]
 pub fn option(
     book: &[u8],
     index: &[u32],
@@ -61,7 +61,7 @@ pub fn option(
 }
 
 // Serialization rules 22, 24 and 25: a member by its lookup. The place comes back, whatever was read.
-#[cycle(as_nested_body_fmember_inner_found_mmember_option_rest_single_fstruct_mmembers_chosen_first_parts_elements_listed_value)]
+#[cycle(reading)]
 pub fn mmember(
     book: &[u8],
     index: &[u32],
@@ -90,7 +90,7 @@ pub fn mmember(
 }
 
 // The value of a member that was found, from its own data. The crate's XCDR2 takes a sequence of primitives by the length that was found.
-#[cycle(as_nested_body_fmember_inner_found_mmember_option_rest_single_fstruct_mmembers_chosen_first_parts_elements_listed_value)]
+#[cycle(reading)]
 pub fn found(
     book: &[u8],
     index: &[u32],

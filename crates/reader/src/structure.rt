@@ -18,7 +18,7 @@ use wire::dheader::cut;
 use wire::settings::Settings;
 
 // Serialization rule 17: the members of a Final or Appendable structure. Too few bytes may end it as read.
-#[cycle(as_nested_body_fmember_inner_found_mmember_option_rest_single_fstruct_mmembers_chosen_first_parts_elements_listed_value)]
+#[cycle(reading)]
 pub fn fstruct(
     book: &[u8],
     index: &[u32],
@@ -72,7 +72,7 @@ pub fn fstruct(
 
 // Serialization rules 21 and 23: the members of a Mutable structure, each by its lookup, and its end. Every lookup comes back to `back`,
 // where the first one's alignment leads. Where members stand in the order of their ids, the next header is the one that is wanted.
-#[cycle(as_nested_body_fmember_inner_found_mmember_option_rest_single_fstruct_mmembers_chosen_first_parts_elements_listed_value)]
+#[cycle(reading)]
 pub fn mmembers(
     book: &[u8],
     index: &[u32],

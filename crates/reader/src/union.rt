@@ -15,7 +15,7 @@ use wire::cursor::Cursor;
 use wire::settings::Settings;
 
 // Serialization rules 26 to 28: the parts of a union, whose type is at `at`: its discriminator, and the member that this selects.
-#[cycle(as_nested_body_fmember_inner_found_mmember_option_rest_single_fstruct_mmembers_chosen_first_parts_elements_listed_value)]
+#[cycle(reading)]
 pub fn parts(
     book: &[u8],
     index: &[u32],
@@ -46,7 +46,7 @@ pub fn parts(
 }
 
 // The first member, at p, which is the discriminator: a Mutable union's is looked up, any other's read as not optional.
-#[cycle(as_nested_body_fmember_inner_found_mmember_option_rest_single_fstruct_mmembers_chosen_first_parts_elements_listed_value)]
+#[cycle(reading)]
 pub fn first(
     book: &[u8],
     index: &[u32],
@@ -79,7 +79,7 @@ pub fn first(
 }
 
 // The member that the discriminator at p selects.
-#[cycle(as_nested_body_fmember_inner_found_mmember_option_rest_single_fstruct_mmembers_chosen_first_parts_elements_listed_value)]
+#[cycle(reading)]
 pub fn chosen(
     book: &[u8],
     index: &[u32],

@@ -23,7 +23,7 @@ use wire::number::Number;
 use wire::settings::Settings;
 
 // A value, by its type's kind.
-#[cycle(as_nested_body_fmember_inner_found_mmember_option_rest_single_fstruct_mmembers_chosen_first_parts_elements_listed_value)]
+#[cycle(reading)]
 pub fn value(
     book: &[u8],
     index: &[u32],
@@ -61,7 +61,7 @@ pub fn value(
 }
 
 // Serialization rules 8 to 13: a sequence or an array, whose type is at `at`.
-#[cycle(as_nested_body_fmember_inner_found_mmember_option_rest_single_fstruct_mmembers_chosen_first_parts_elements_listed_value)]
+#[cycle(reading)]
 pub fn listed(
     book: &[u8],
     index: &[u32],
@@ -98,7 +98,7 @@ pub fn listed(
 }
 
 // The elements of a list, by their type.
-#[cycle(as_nested_body_fmember_inner_found_mmember_option_rest_single_fstruct_mmembers_chosen_first_parts_elements_listed_value)]
+#[cycle(reading)]
 pub fn elements(
     book: &[u8],
     index: &[u32],
