@@ -1,9 +1,10 @@
 // A case as bytes: the book, the root, the message's length and the message.
-ghost use Rattle.std.specs.Prelude.{◌≡◌};
+ghost use Rattle.std.specs.Prelude.{◌≡◌, ◌≤◌, length};
 ghost use Rattle.cases.specs.Input.{input_of, Replied};
 
 use book::bytes::{pair_at, quad_at};
 use sinotayam::answer::Answer;
+use std::io::Read;
 use wire::settings::Mode;
 
 // The book's size, the root, and the message's size.
@@ -44,4 +45,19 @@ pub fn read_case(s: &[u8], table: &mut [u64]) -> Reply
             Reply::Given(sinotayam::read(&s[0..book], root, &s[start..end], Mode::Crate, table))
         }
     }
+}
+
+// Reads until buf is full, the input ends or a read fails. Tells how many bytes it put at buf's start.
+pub fn read_full(from: &mut impl Read, buf: &mut [u8]) -> usize
+    ensures { result ≤ length buf.new }
+{
+    let mut done = 0;
+    while done < buf.len() {
+        match from.read(&mut buf[done..]) {
+            Ok(0) => return done,
+            Ok(n) => done += n,
+            Err(_) => return done,
+        }
+    }
+    done
 }

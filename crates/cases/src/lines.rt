@@ -1,63 +1,62 @@
-// An answer as lines on standard output.
+// An answer as lines on standard output. A write that fails is passed over, and what follows is written all the same.
 ghost use Rattle.std.specs.Prelude.{◌≡◌};
 
-use libc::STDOUT_FILENO;
 use sinotayam::answer::Answer;
 use table::rows::row_at;
 use wire::cursor::Told;
 
-fn number(n: u64) {
-    io::print_decimal(STDOUT_FILENO, n);
+fn number(rt: &impl Print, n: u64) {
+    let _ = rt.print(n);
 }
 
-fn text(s: &[u8]) {
-    io::write_all(STDOUT_FILENO, s);
+fn text(rt: &impl Print, s: &[u8]) {
+    let _ = rt.write_all(s);
 }
 
 // Row i: kind, id, a, b, place.
-fn line(table: &[u64], i: usize) {
+fn line(rt: &impl Print, table: &[u64], i: usize) {
     let row = row_at(table, i);
-    number(row.kind);
-    text(b" ");
-    number(row.id);
-    text(b" ");
-    number(row.a);
-    text(b" ");
-    number(row.b);
-    text(b" ");
-    number(row.place);
-    text(b"\n");
+    number(rt, row.kind);
+    text(rt, b" ");
+    number(rt, row.id);
+    text(rt, b" ");
+    number(rt, row.a);
+    text(rt, b" ");
+    number(rt, row.b);
+    text(rt, b" ");
+    number(rt, row.place);
+    text(rt, b"\n");
 }
 
 // "answer N rows K", and the rows. Tells how many rows it wrote.
-pub fn answer(a: Answer, table: &[u64]) -> usize
+pub fn answer(rt: &impl Print, a: Answer, table: &[u64]) -> usize
     ensures { result ≡ a.rows }
 {
     let status = a.status;
     let rows = a.rows;
-    text(b"answer ");
-    number(status.code() as u64);
-    text(b" rows ");
-    number(rows as u64);
-    text(b"\n");
+    text(rt, b"answer ");
+    number(rt, status.code() as u64);
+    text(rt, b" rows ");
+    number(rt, rows as u64);
+    text(rt, b"\n");
     let mut i = 0;
     while i < rows {
-        line(table, i);
+        line(rt, table, i);
         i += 1;
     }
     i
 }
 
 // "told P N": where the read that ran short began, and the bytes that it still needed. Tells how many.
-pub fn told(x: Told) -> usize
+pub fn told(rt: &impl Print, x: Told) -> usize
     ensures { result ≡ x.need }
 {
     let position = x.position;
     let need = x.need;
-    text(b"told ");
-    number(position as u64);
-    text(b" ");
-    number(need as u64);
-    text(b"\n");
+    text(rt, b"told ");
+    number(rt, position as u64);
+    text(rt, b" ");
+    number(rt, need as u64);
+    text(rt, b"\n");
     need
 }

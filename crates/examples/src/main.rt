@@ -10,64 +10,65 @@ ghost use Rattle.std.specs.Prelude.{◌≡◌, ◌+◌, ◌*◌};
 use book::bytes::skip;
 use book::fault::Fault;
 use books::{ARRAY, ENUM, EXAMPLE1, LABELLED, LABELS18, LONGER, PAIR, PLAIN, SEQUENCE, UNION};
-use libc::STDOUT_FILENO;
 
-fn main() {
-    lengths();
-    head();
-    own_bytes();
-    links();
-    members();
-    first_of_union();
-    one_field();
-    own_neighbours();
-    member_neighbours();
-    cuts();
-    right();
-    allowed_types();
-    allowed_members();
-    bounds();
+fn main(rt: HostRuntime) {
+    lengths(&rt);
+    head(&rt);
+    own_bytes(&rt);
+    links(&rt);
+    members(&rt);
+    first_of_union(&rt);
+    one_field(&rt);
+    own_neighbours(&rt);
+    member_neighbours(&rt);
+    cuts(&rt);
+    right(&rt);
+    allowed_types(&rt);
+    allowed_members(&rt);
+    bounds(&rt);
 }
 
 // Slices of few bytes, each with its own length stated as far as it has room.
-fn lengths() {
-    show(b"0 bytes", b"");
-    show(b"3 bytes", b"\x00\x00\x00");
-    show(b"4 bytes", b"\x00\x00\x00\x04");
-    show(b"6 bytes", b"\x00\x00\x00\x06\x01\x00");
+fn lengths(rt: &impl Print) {
+    show(rt, b"0 bytes", b"");
+    show(rt, b"3 bytes", b"\x00\x00\x00");
+    show(rt, b"4 bytes", b"\x00\x00\x00\x04");
+    show(rt, b"6 bytes", b"\x00\x00\x00\x06\x01\x00");
 }
 
-fn head() {
-    changed(b"length 22 of 21 bytes", &PLAIN, 3, 22);
-    changed(b"version 2", &PLAIN, 4, 2);
-    show(b"no type", b"\x00\x00\x00\x07\x01\x00\x00");
-    changed(b"record longer than the book", &PLAIN, 8, 15);
+fn head(rt: &impl Print) {
+    changed(rt, b"length 22 of 21 bytes", &PLAIN, 3, 22);
+    changed(rt, b"version 2", &PLAIN, 4, 2);
+    show(rt, b"no type", b"\x00\x00\x00\x07\x01\x00\x00");
+    changed(rt, b"record longer than the book", &PLAIN, 8, 15);
     show(
+        rt,
         b"record of 13 bytes",
         b"\x00\x00\x00\x14\x01\x00\x01\x00\x0d\x04\x00\x00\x00\x00\x00\x00\x00\xff\xff\x00",
     );
-    changed(b"a byte after the members", &LONGER, 8, 15);
-    changed(b"second member not there", &EXAMPLE1, 34, 2);
-    changed(b"label not there", &EXAMPLE1, 43, 1);
-    show(b"no record", b"\x00\x00\x00\x07\x01\x00\x01");
-    show(b"half a length", b"\x00\x00\x00\x08\x01\x00\x01\x0e");
-    changed(b"a byte after the last record", &LONGER, 3, 22);
+    changed(rt, b"a byte after the members", &LONGER, 8, 15);
+    changed(rt, b"second member not there", &EXAMPLE1, 34, 2);
+    changed(rt, b"label not there", &EXAMPLE1, 43, 1);
+    show(rt, b"no record", b"\x00\x00\x00\x07\x01\x00\x01");
+    show(rt, b"half a length", b"\x00\x00\x00\x08\x01\x00\x01\x0e");
+    changed(rt, b"a byte after the last record", &LONGER, 3, 22);
 }
 
-fn own_bytes() {
-    changed(b"kind 28", &PLAIN, 9, 28);
-    changed(b"extensibility 3", &PLAIN, 10, 3);
-    changed(b"base 4 of INT32", &PLAIN, 11, 4);
-    changed(b"base 28 of an enum", &ENUM, 11, 28);
-    changed(b"bound flag 2", &PLAIN, 12, 2);
-    changed(b"array without a bound", &SEQUENCE, 23, 26);
-    changed(b"bound 1 without its flag", &PLAIN, 16, 1);
+fn own_bytes(rt: &impl Print) {
+    changed(rt, b"kind 28", &PLAIN, 9, 28);
+    changed(rt, b"extensibility 3", &PLAIN, 10, 3);
+    changed(rt, b"base 4 of INT32", &PLAIN, 11, 4);
+    changed(rt, b"base 28 of an enum", &ENUM, 11, 28);
+    changed(rt, b"bound flag 2", &PLAIN, 12, 2);
+    changed(rt, b"array without a bound", &SEQUENCE, 23, 26);
+    changed(rt, b"bound 1 without its flag", &PLAIN, 16, 1);
 }
 
-fn links() {
-    changed(b"element of INT32", &PLAIN, 18, 0xfe);
-    changed(b"element its own record", &SEQUENCE, 32, 1);
+fn links(rt: &impl Print) {
+    changed(rt, b"element of INT32", &PLAIN, 18, 0xfe);
+    changed(rt, b"element its own record", &SEQUENCE, 32, 1);
     changed_twice(
+        rt,
         b"sequence without an element",
         &SEQUENCE,
         31,
@@ -75,9 +76,10 @@ fn links() {
         32,
         0xff,
     );
-    changed_twice(b"array without an element", &ARRAY, 31, 0xff, 32, 0xff);
-    changed(b"member its own record", &EXAMPLE1, 40, 1);
+    changed_twice(rt, b"array without an element", &ARRAY, 31, 0xff, 32, 0xff);
+    changed(rt, b"member its own record", &EXAMPLE1, 40, 1);
     changed_twice(
+        rt,
         b"structure's member without a type",
         &EXAMPLE1,
         39,
@@ -85,58 +87,67 @@ fn links() {
         40,
         0xff,
     );
-    changed(b"enum's member with a type", &EXAMPLE1, 23, 21);
+    changed(rt, b"enum's member with a type", &EXAMPLE1, 23, 21);
 }
 
-fn members() {
-    changed(b"member of an alias", &EXAMPLE1, 23, 18);
-    changed(b"enum without a member", &PLAIN, 9, 21);
-    changed(b"union without a member", &PLAIN, 9, 23);
-    changed(b"two members of one id", &PAIR, 47, 7);
-    changed(b"flags 4", &EXAMPLE1, 41, 4);
-    changed(b"try-construct 3", &EXAMPLE1, 42, 3);
-    show(b"18 labels", &LABELS18);
+fn members(rt: &impl Print) {
+    changed(rt, b"member of an alias", &EXAMPLE1, 23, 18);
+    changed(rt, b"enum without a member", &PLAIN, 9, 21);
+    changed(rt, b"union without a member", &PLAIN, 9, 23);
+    changed(rt, b"two members of one id", &PAIR, 47, 7);
+    changed(rt, b"flags 4", &EXAMPLE1, 41, 4);
+    changed(rt, b"try-construct 3", &EXAMPLE1, 42, 3);
+    show(rt, b"18 labels", &LABELS18);
 }
 
-fn first_of_union() {
-    changed(b"union's first with id 1", &UNION, 38, 1);
-    changed(b"union's first of kind 16", &UNION, 9, 16);
-    changed(b"union's first a default", &UNION, 41, 2);
-    changed(b"union's first with a label", &LABELLED, 23, 23);
+fn first_of_union(rt: &impl Print) {
+    changed(rt, b"union's first with id 1", &UNION, 38, 1);
+    changed(rt, b"union's first of kind 16", &UNION, 9, 16);
+    changed(rt, b"union's first a default", &UNION, 41, 2);
+    changed(rt, b"union's first with a label", &LABELLED, 23, 23);
 }
 
 // One field that breaks two rules: the earlier reason is told.
-fn one_field() {
-    changed(b"array's bound flag 2", &ARRAY, 26, 2);
-    changed(b"union's first its own record", &UNION, 40, 1);
-    changed(b"union's first with flags 6", &UNION, 41, 6);
-    changed(b"union's first with 18 labels", &LABELS18, 23, 23);
+fn one_field(rt: &impl Print) {
+    changed(rt, b"array's bound flag 2", &ARRAY, 26, 2);
+    changed(rt, b"union's first its own record", &UNION, 40, 1);
+    changed(rt, b"union's first with flags 6", &UNION, 41, 6);
+    changed(rt, b"union's first with 18 labels", &LABELS18, 23, 23);
 }
 
 // Two neighbouring places that break rules: the earlier is told.
-fn own_neighbours() {
-    changed_twice(b"head, length", &PLAIN, 4, 2, 8, 15);
-    changed_twice(b"length, kind", &PLAIN, 8, 15, 9, 28);
-    changed_twice(b"base, bound flag", &SEQUENCE, 23, 26, 25, 4);
-    changed_twice(b"bound flag, bound", &PLAIN, 12, 2, 16, 1);
-    changed_twice(b"bound, element", &PLAIN, 16, 1, 18, 0xfe);
-    changed_twice(b"element, member count", &PLAIN, 18, 0xfe, 20, 1);
-    changed(b"member count, a member's place", &PLAIN, 20, 1);
-    changed_twice(b"kind, a member's place", &EXAMPLE1, 23, 28, 34, 2);
-    changed_twice(b"own bytes, a member's type", &EXAMPLE1, 24, 3, 40, 1);
-    changed(b"a byte left, the next length", &EXAMPLE1, 8, 15);
-    changed_twice(b"a record, the next", &EXAMPLE1, 9, 21, 24, 3);
-    changed(b"the last record, a byte left", &LONGER, 9, 28);
+fn own_neighbours(rt: &impl Print) {
+    changed_twice(rt, b"head, length", &PLAIN, 4, 2, 8, 15);
+    changed_twice(rt, b"length, kind", &PLAIN, 8, 15, 9, 28);
+    changed_twice(rt, b"base, bound flag", &SEQUENCE, 23, 26, 25, 4);
+    changed_twice(rt, b"bound flag, bound", &PLAIN, 12, 2, 16, 1);
+    changed_twice(rt, b"bound, element", &PLAIN, 16, 1, 18, 0xfe);
+    changed_twice(rt, b"element, member count", &PLAIN, 18, 0xfe, 20, 1);
+    changed(rt, b"member count, a member's place", &PLAIN, 20, 1);
+    changed_twice(rt, b"kind, a member's place", &EXAMPLE1, 23, 28, 34, 2);
+    changed_twice(rt, b"own bytes, a member's type", &EXAMPLE1, 24, 3, 40, 1);
+    changed(rt, b"a byte left, the next length", &EXAMPLE1, 8, 15);
+    changed_twice(rt, b"a record, the next", &EXAMPLE1, 9, 21, 24, 3);
+    changed(rt, b"the last record, a byte left", &LONGER, 9, 28);
 }
 
-fn member_neighbours() {
-    changed_twice(b"label not there, id", &PAIR, 47, 7, 52, 1);
-    changed_twice(b"label not there, union's first id", &UNION, 38, 1, 43, 1);
-    changed_twice(b"id, type", &PAIR, 47, 7, 49, 1);
-    changed_twice(b"union's first id, type", &UNION, 38, 1, 40, 1);
-    changed_twice(b"type, flags", &EXAMPLE1, 40, 1, 41, 4);
-    changed_twice(b"union's first kind, flags", &UNION, 9, 16, 41, 4);
+fn member_neighbours(rt: &impl Print) {
+    changed_twice(rt, b"label not there, id", &PAIR, 47, 7, 52, 1);
     changed_twice(
+        rt,
+        b"label not there, union's first id",
+        &UNION,
+        38,
+        1,
+        43,
+        1,
+    );
+    changed_twice(rt, b"id, type", &PAIR, 47, 7, 49, 1);
+    changed_twice(rt, b"union's first id, type", &UNION, 38, 1, 40, 1);
+    changed_twice(rt, b"type, flags", &EXAMPLE1, 40, 1, 41, 4);
+    changed_twice(rt, b"union's first kind, flags", &UNION, 9, 16, 41, 4);
+    changed_twice(
+        rt,
         b"union's first default, try-construct",
         &UNION,
         41,
@@ -144,9 +155,10 @@ fn member_neighbours() {
         42,
         3,
     );
-    changed(b"try-construct, label count", &LABELS18, 42, 3);
-    changed(b"label count, the next member", &LABELS18, 34, 2);
+    changed(rt, b"try-construct, label count", &LABELS18, 42, 3);
+    changed(rt, b"label count, the next member", &LABELS18, 34, 2);
     changed_twice(
+        rt,
         b"union's first label, the next member",
         &LABELLED,
         23,
@@ -154,93 +166,101 @@ fn member_neighbours() {
         34,
         2,
     );
-    changed(b"label count, bytes left", &LABELS18, 43, 17);
+    changed(rt, b"label count, bytes left", &LABELS18, 43, 17);
 }
 
 // Example 1's book cut after n bytes: as it is, and with its length put right.
-fn cut(n: usize) {
+fn cut(rt: &impl Print, n: usize) {
     if 44 <= n {
         return;
     }
     let whole = EXAMPLE1;
-    show(b"example 1 cut", &whole[0..n]);
+    show(rt, b"example 1 cut", &whole[0..n]);
     let mut b = EXAMPLE1;
     b[3] = n as u8;
-    show(b"example 1 cut, its length right", &b[0..n]);
+    show(rt, b"example 1 cut, its length right", &b[0..n]);
 }
 
-fn cuts() {
+fn cuts(rt: &impl Print) {
     let mut n = 0;
     while n < 44 {
-        cut(n);
+        cut(rt, n);
         n += 1;
     }
 }
 
 // Right books: example 1's, and the smallest.
-fn right() {
-    show(b"example 1", &EXAMPLE1);
-    show(b"INT32", &PLAIN);
-    show(b"sequence", &SEQUENCE);
-    show(b"array of bound 0", &ARRAY);
-    show(b"enum", &ENUM);
-    show(b"union of its discriminator", &UNION);
-    show(b"two members", &PAIR);
-    show(b"structure's member with a label", &LABELLED);
+fn right(rt: &impl Print) {
+    show(rt, b"example 1", &EXAMPLE1);
+    show(rt, b"INT32", &PLAIN);
+    show(rt, b"sequence", &SEQUENCE);
+    show(rt, b"array of bound 0", &ARRAY);
+    show(rt, b"enum", &ENUM);
+    show(rt, b"union of its discriminator", &UNION);
+    show(rt, b"two members", &PAIR);
+    show(rt, b"structure's member with a label", &LABELLED);
 }
 
 // What no rule names.
-fn allowed_types() {
-    changed_twice(b"INT32 with a bound", &PLAIN, 12, 1, 16, 5);
-    changed(b"Mutable INT32", &PLAIN, 10, 2);
-    changed(b"enum of base 27", &ENUM, 11, 27);
-    changed(b"structure without members", &PLAIN, 9, 22);
+fn allowed_types(rt: &impl Print) {
+    changed_twice(rt, b"INT32 with a bound", &PLAIN, 12, 1, 16, 5);
+    changed(rt, b"Mutable INT32", &PLAIN, 10, 2);
+    changed(rt, b"enum of base 27", &ENUM, 11, 27);
+    changed(rt, b"structure without members", &PLAIN, 9, 22);
 }
 
-fn allowed_members() {
-    changed_twice(b"flags 3, Trim", &EXAMPLE1, 41, 3, 42, 2);
-    changed_twice(b"union's first optional, UseDefault", &UNION, 41, 1, 42, 0);
-    changed(b"union's first of kind 15", &UNION, 9, 15);
-    changed(b"union's first of kind 19", &UNION, 9, 19);
+fn allowed_members(rt: &impl Print) {
+    changed_twice(rt, b"flags 3, Trim", &EXAMPLE1, 41, 3, 42, 2);
+    changed_twice(
+        rt,
+        b"union's first optional, UseDefault",
+        &UNION,
+        41,
+        1,
+        42,
+        0,
+    );
+    changed(rt, b"union's first of kind 15", &UNION, 9, 15);
+    changed(rt, b"union's first of kind 19", &UNION, 9, 19);
 }
 
 // Books at the bounds, built.
-fn bounds() {
-    types(b"64 types", 64);
-    types(b"65 types", 65);
-    structures(b"64 members", 0, 64, 0, 16);
-    structures(b"65 members", 0, 65, 0, 16);
-    structures(b"16 labels", 0, 1, 16, 16);
-    structures(b"17 labels", 0, 1, 17, 17);
-    structures(b"65536 bytes", 13, 63, 1004, 16);
-    structures(b"65537 bytes", 13, 64, 1002, 16);
+fn bounds(rt: &impl Print) {
+    types(rt, b"64 types", 64);
+    types(rt, b"65 types", 65);
+    structures(rt, b"64 members", 0, 64, 0, 16);
+    structures(rt, b"65 members", 0, 65, 0, 16);
+    structures(rt, b"16 labels", 0, 1, 16, 16);
+    structures(rt, b"17 labels", 0, 1, 17, 17);
+    structures(rt, b"65536 bytes", 13, 63, 1004, 16);
+    structures(rt, b"65537 bytes", 13, 64, 1002, 16);
 }
 
 // Writes the name of a book, what is told of it, and its bytes.
-fn show(name: &[u8], b: &[u8]) {
-    io::write_all(STDOUT_FILENO, name);
+fn show(rt: &impl Print, name: &[u8], b: &[u8]) {
+    let _ = rt.write_all(name);
     if book::judge::judge(b) {
-        io::write_all(STDOUT_FILENO, b": right");
+        let _ = rt.write_all(b": right");
     } else {
-        show_fault(book::judge::fault(b));
+        show_fault(rt, book::judge::fault(b));
     }
     if b.len() <= FEW {
-        io::write_all(STDOUT_FILENO, b" ");
-        show_bytes(b);
+        let _ = rt.write_all(b" ");
+        show_bytes(rt, b);
     }
-    io::write_all(STDOUT_FILENO, b"\n");
+    let _ = rt.write_all(b"\n");
 }
 
-fn show_fault(found: Fault) {
+fn show_fault(rt: &impl Print, found: Fault) {
     match found {
         Fault::Nothing => {
-            io::write_all(STDOUT_FILENO, b": nothing");
+            let _ = rt.write_all(b": nothing");
         }
         Fault::In(k, why) => {
-            io::write_all(STDOUT_FILENO, b": record ");
-            io::print_decimal(STDOUT_FILENO, k as u64);
-            io::write_all(STDOUT_FILENO, b" number ");
-            io::print_decimal(STDOUT_FILENO, ground::wide(why.number()));
+            let _ = rt.write_all(b": record ");
+            let _ = rt.print(k as u64);
+            let _ = rt.write_all(b" number ");
+            let _ = rt.print(ground::wide(why.number()));
         }
     }
 }
@@ -255,12 +275,12 @@ fn digit(x: u8) -> u8 {
     DIGITS[i]
 }
 
-fn show_bytes(b: &[u8]) {
+fn show_bytes(rt: &impl Print, b: &[u8]) {
     let mut i = 0;
     while i < b.len() {
         let x = b[i];
         let two = [digit(x / 16), digit(x)];
-        io::write_all(STDOUT_FILENO, &two);
+        let _ = rt.write_all(&two);
         i += 1;
     }
 }
@@ -280,19 +300,19 @@ fn copy(b: &mut [u8], s: &[u8]) {
 }
 
 // The book s with x at i and y at j: the books that differ from a right one in a byte or two.
-fn changed_twice(name: &[u8], s: &[u8], i: usize, x: u8, j: usize, y: u8) {
+fn changed_twice(rt: &impl Print, name: &[u8], s: &[u8], i: usize, x: u8, j: usize, y: u8) {
     let mut b = [0u8; FEW];
     if s.len() <= FEW {
         copy(&mut b, s);
         put(&mut b, i, x);
         put(&mut b, j, y);
         let n = s.len();
-        show(name, &b[0..n]);
+        show(rt, name, &b[0..n]);
     }
 }
 
-fn changed(name: &[u8], s: &[u8], i: usize, x: u8) {
-    changed_twice(name, s, i, x, i, x);
+fn changed(rt: &impl Print, name: &[u8], s: &[u8], i: usize, x: u8) {
+    changed_twice(rt, name, s, i, x, i, x);
 }
 
 // Books that are too long to write out are built in a buffer that is zero but for what is put there.
@@ -387,29 +407,29 @@ fn put_full(b: &mut [u8], at: usize, n: u8) -> usize {
     p
 }
 
-fn show_part(name: &[u8], b: &[u8], n: u32) {
+fn show_part(rt: &impl Print, name: &[u8], b: &[u8], n: u32) {
     let end = n as usize;
     if end <= b.len() {
-        show(name, &b[0..end]);
+        show(rt, name, &b[0..end]);
     }
 }
 
 // A book of n types INT32.
-fn types(name: &[u8], n: u8) {
+fn types(rt: &impl Print, name: &[u8], n: u8) {
     let mut b = [0u8; 1024];
     let size = 7 + 14 * (n as u32);
     let p = put_head(&mut b, size, n as u32);
     put_types(&mut b, p, n);
-    show_part(name, &b, size);
+    show_part(rt, name, &b, size);
 }
 
 // A book of INT32, `full` structures of 4,686 bytes, and one of `members` members with `labels` labels, at most `most` each.
-fn structures(name: &[u8], full: u8, members: u8, labels: u16, most: u8) {
+fn structures(rt: &impl Print, name: &[u8], full: u8, members: u8, labels: u16, most: u8) {
     let mut b = [0u8; 65537];
     let size = 21 + 4686 * (full as u32) + size_of(members, labels);
     let p = put_head(&mut b, size, 2 + (full as u32));
     let q = put_types(&mut b, p, 1);
     let r = put_full(&mut b, q, full);
     put_structure(&mut b, r, members, labels, most);
-    show_part(name, &b, size);
+    show_part(rt, name, &b, size);
 }

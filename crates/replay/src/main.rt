@@ -8,7 +8,8 @@
 #![tactic(auto)]
 
 use book::bytes::{byte_at, pair_at, quad_at};
-use libc::STDOUT_FILENO;
+use cases::input::read_full;
+use std::io::Read;
 use table::rows::WIDTH;
 use wire::settings::Mode;
 
@@ -21,8 +22,8 @@ const WORDS: usize = 10240;
 // The most entries of a list.
 const ENTRIES: usize = 100000;
 
-fn filled(part: &mut [u8]) -> bool {
-    io::read_full(0, part) == part.len()
+fn filled(from: &mut impl Read, part: &mut [u8]) -> bool {
+    read_full(from, part) == part.len()
 }
 
 fn mode_of(mode: u8) -> Mode {
@@ -33,18 +34,19 @@ fn mode_of(mode: u8) -> Mode {
     }
 }
 
-fn say(book: &[u8], root: usize, message: &[u8], mode: u8, table: &mut [u64]) {
+fn say(rt: &impl Print, book: &[u8], root: usize, message: &[u8], mode: u8, table: &mut [u64]) {
     let a = sinotayam::read(book, root, message, mode_of(mode), table);
-    cases::lines::answer(a, table);
+    cases::lines::answer(rt, a, table);
     // The need is over 0 where the answer is 1, and else 0.
     let told = a.told;
     if (2 <= mode) & (0 < told.need) {
-        cases::lines::told(told);
+        cases::lines::told(rt, told);
     }
 }
 
 // Reads the message with the first `rows` rows of the table; false where it has fewer.
 fn read(
+    rt: &impl Print,
     book: &[u8],
     root: usize,
     message: &[u8],
@@ -56,12 +58,12 @@ fn read(
         return false;
     }
     let words = rows * WIDTH;
-    say(book, root, message, mode, &mut table[0..words]);
+    say(rt, book, root, message, mode, &mut table[0..words]);
     true
 }
 
 // Reads the rest of the entry whose first seven bytes stand in buf, and its message; false where it is no whole entry.
-fn entry(buf: &mut [u8], table: &mut [u64]) -> bool {
+fn entry(rt: &impl Print, from: &mut impl Read, buf: &mut [u8], table: &mut [u64]) -> bool {
     let mode = byte_at(buf, 0, 0) as u8;
     let rows = pair_at(buf, 1, 0);
     let book = quad_at(buf, 3, 0) as usize + 3;
@@ -69,7 +71,7 @@ fn entry(buf: &mut [u8], table: &mut [u64]) -> bool {
     if buf.len() < start {
         return false;
     }
-    if !filled(&mut buf[7..start]) {
+    if !filled(from, &mut buf[7..start]) {
         return false;
     }
     let root = pair_at(buf, book, 0);
@@ -77,37 +79,37 @@ fn entry(buf: &mut [u8], table: &mut [u64]) -> bool {
     if buf.len() < end {
         return false;
     }
-    if !filled(&mut buf[start..end]) {
+    if !filled(from, &mut buf[start..end]) {
         return false;
     }
-    read(&buf[3..book], root, &buf[start..end], mode, table, rows)
+    read(rt, &buf[3..book], root, &buf[start..end], mode, table, rows)
 }
 
 // Reads one entry, if there is one more; false where the list is at its end, or has no whole entry there.
-fn next(buf: &mut [u8], table: &mut [u64]) -> bool {
+fn next(rt: &impl Print, from: &mut impl Read, buf: &mut [u8], table: &mut [u64]) -> bool {
     if buf.len() < 7 {
         return false;
     }
-    if io::read_full(0, &mut buf[0..7]) == 0 {
+    if read_full(from, &mut buf[0..7]) == 0 {
         return false;
     }
-    if entry(buf, table) {
+    if entry(rt, from, buf, table) {
         return true;
     }
-    io::write_all(STDOUT_FILENO, b"input\n");
+    let _ = rt.write_all(b"input\n");
     false
 }
 
-fn all(buf: &mut [u8], table: &mut [u64]) {
+fn all(rt: &impl Print, from: &mut impl Read, buf: &mut [u8], table: &mut [u64]) {
     for _ in 0..ENTRIES {
-        if !next(buf, table) {
+        if !next(rt, from, buf, table) {
             return;
         }
     }
 }
 
-fn main() {
+fn main(rt: HostRuntime) {
     let mut buf = [0u8; LONGEST];
     let mut table = [0u64; WORDS];
-    all(&mut buf, &mut table);
+    all(&rt, &mut rt.stdin(), &mut buf, &mut table);
 }
