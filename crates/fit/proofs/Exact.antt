@@ -68,6 +68,7 @@ module _ (lower : List ℕ) (d : ℕ) where
 
   each_most : (m : ℕ) (ks : List ℕ) → longest_from lower m ks ≤ d → (k : ℕ) → OneOf k ks → get_or lower k too_long ≤ d
   unfolding longest_from
+  each_most m [] h k o = elim o [ ]
   each_most m (x ∷ xs) h k (Memᴰ.head e) = rw e (omega (arith, start_most (max m (get_or lower x too_long)) xs h))
   each_most m (x ∷ xs) h k (Memᴰ.tail o) = each_most (max m (get_or lower x too_long)) xs h k o
 

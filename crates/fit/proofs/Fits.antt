@@ -15,6 +15,7 @@ use Rattle.fit.specs.Fit.{here, there, opened, passed, Clause, Fit, Passes, link
 -- what holds of each holds of one, and the other way round
 pub every_one : {A : Type 0} (f : A → Bool) (xs : List A) (x : A) → every f xs ≡ true → OneOf x xs → f x ≡ true
 unfolding every
+every_one f [] x h o = elim o [ ]
 every_one f (y ∷ ys) x h (Memᴰ.head e) = rw e (both_first (f y) (every f ys) h)
 every_one f (y ∷ ys) x h (Memᴰ.tail o) = every_one f ys x (both_second (f y) (every f ys) h) o
 

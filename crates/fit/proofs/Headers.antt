@@ -125,6 +125,7 @@ by_use : (only : Bool) (version : Version) (ms : List Member) → UsedWith only 
     → ((i j : ℕ) → i < j → j < length ms → id_no ms i ≡ id_no ms j → ⊥) → NoHeaderFillsTwo version ms
 by_use false Xcdr1 ms any_encoding e differ = apart_xcdr1 ms (both_second (every (id_fits false) ms) (low_differ ms) e)
 by_use false Xcdr2 ms any_encoding e differ = apart_xcdr2 ms differ
+by_use true Xcdr1 ms u e differ = elim u [ ]
 by_use true Xcdr2 ms xcdr2_only e differ = apart_xcdr2 ms differ
 
 -- OF EACH TYPE THAT IS REACHED FROM A ROOT THAT THE CHECK PASSES, and whose members are looked for by their headers

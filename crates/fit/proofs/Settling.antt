@@ -122,6 +122,7 @@ list_end_law true end c = by_test (Settles NoRows) (eqb c.pos end) (λ e. finish
 
 member_type : (ms : List Member) (m : Member) → OneOf m ms → OneOf m.type (member_types ms)
 unfolding member_types
+member_type [] m o = elim o [ ]
 member_type (x ∷ xs) m (Memᴰ.head e) = Memᴰ.head (ap (λ (y : Member). y.type) e)
 member_type (x ∷ xs) m (Memᴰ.tail o) = Memᴰ.tail (member_type xs m o)
 

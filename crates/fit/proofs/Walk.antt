@@ -123,7 +123,7 @@ module _ {set : Settings} {K : Claim set} {s : List ℕ} where
   stands_block (no_place l) h = short_stands l
 
 -- what stands in what is left of the data stands in the data
-rows_wider : {set : Settings} {K : Claim set} {rs : List Row} (s : List ℕ) (end : ℕ) → RowsAt K (cut_at set s end) rs → RowsAt K s rs
+rows_wider : {set : Settings} {K : Claim set} (s : List ℕ) (end : ℕ) {rs : List Row} → RowsAt K (cut_at set s end) rs → RowsAt K s rs
 rows_wider s end no_row = no_row
 rows_wider {K = K} s end (row_at {r} p ps) = row_at {r = r} (K.outer s end r.place p) (rows_wider s end ps)
 
