@@ -37,13 +37,13 @@ object() { # REPO LOG
     mkdir -p "$repo/crates/feed/src"
     cp -r "$root"/crates/* "$repo/crates/"
     cp "$root/crates.txt" "$repo/"
-    echo 'feed: sinotayam io libc' >>"$repo/crates.txt"
+    echo 'feed: sinotayam' >>"$repo/crates.txt"
     cat >"$repo/crates/feed/src/main.rt" <<'END'
-fn main() {
+fn main(rt: HostRuntime) {
     let mut table = [0u64; 4];
     let mut position = 0u64;
     let mut need = 0u64;
-    io::print_decimal(1, sinotayam::c::sinotayam_read(b"", 0, b"", 0, &mut table, &mut position, &mut need));
+    let _ = rt.print(sinotayam::c::sinotayam_read(b"", 0, b"", 0, &mut table, &mut position, &mut need));
 }
 END
     printf 17 >"$repo/crates/feed/stdout"
