@@ -16,7 +16,7 @@ use Rattle.book.specs.declared.fault.Reason.TheVariants.{Head, RecordLength, Cod
 use Rattle.book.specs.declared.fault.Fault.{Fault}
 use Rattle.book.specs.declared.fault.Fault.TheVariants.{Nothing, In}
 use Rattle.book.proofs.Judging.{few_types}
-use Rattle.book.specs.Fault.{reason_number, fault_number, fault_word, is_right, the_head, unless, ◌then◌, head_fault, own_fault, member_fault, members_fault, record_fault, records_fault, fault_of}
+use Rattle.book.specs.Fault.{reason_number, fault_number, is_right, the_head, unless, ◌then◌, head_fault, own_fault, member_fault, members_fault, record_fault, records_fault, fault_of}
 
 -- THE NUMBERS
 pub record Told (n : ℕ) : Type 0 where

@@ -8,8 +8,8 @@ use native.Mathlib.Nat.{add-zero, le_of_lt}
 use lib.Dec.{eqb, ltb, leb}
 use lib.ListN.{length, get_or, take, drop}
 use lib.Seq.{length-take-le, get_or-take}
-use borrow.Author.Tests.{leb-true, ltb-true, lt-ltb, eqb-true, eq-eqb, ne_eqb, not-true, eqb-false}
-use Rattle.ground.specs.Choice.{pick, both, every, ◌‥◌, within}
+use borrow.Author.Tests.{leb-true, ltb-true, eqb-true, eq-eqb, ne_eqb, not-true, eqb-false}
+use Rattle.ground.specs.Choice.{both, every, ◌‥◌, within}
 use Rattle.ground.proofs.Tests.{both_first, both_second, one_first, one_second}
 use Rattle.book.specs.Types.{Member, BookType, default, bounded, no_index, quad, type_of, past_type, type_count, types_from, types_of, type_no}
 use Rattle.book.specs.Places.{from, types_by, index_count, indexed}

@@ -1,25 +1,24 @@
 -- Laws of the judge's walks: what is still to be told is what is told of the whole. Assumes nothing.
-use Prim.Native.Nat.{ℕ, zero, suc, ◌+◌, ◌-◌, ◌*◌, ◌<◌, ◌≤◌}
-use mathlib.Core.Path.{◌≡◌, refl, sym, ap, ◌∙◌}
+use Prim.Native.Nat.{ℕ, suc, ◌+◌, ◌-◌, ◌*◌, ◌<◌, ◌≤◌}
+use mathlib.Core.Path.{◌≡◌, refl, sym, ◌∙◌}
 use mathlib.Core.Bool.{Bool, true, false, not, ◌&&◌, ◌||◌}
 use mathlib.Core.List.{List, [], ◌∷◌, ◌++◌}
 use native.Mathlib.Omega.{arith}
 use native.Mathlib.Numerals.{add-one}
-use lib.Dec.{eqb, ltb, leb}
+use lib.Dec.{eqb, leb}
 use lib.ListN.{length, take, drop}
 use borrow.Author.Tests.{not-true, not-false, lt-leb, le-leb, eq-eqb, ne_eqb}
 use Rattle.ground.specs.Choice.{pick, every, ◌‥◌, within}
 use Rattle.book.specs.declared.member.Run.{Run}
-use Rattle.book.specs.declared.fault.Reason.{Reason}
 use Rattle.book.specs.declared.fault.Reason.TheVariants.{Head, RecordLength, CodeRange, TypeLink, Bound, MemberList, FirstMember}
 use Rattle.book.specs.declared.fault.Fault.{Fault}
 use Rattle.book.specs.declared.fault.Fault.TheVariants.{Nothing, In}
-use Rattle.book.specs.Types.{Member, BookType, default, pair, member_of, past_member, members_of, type_of, past_type, type_count, types_of, type_no}
+use Rattle.book.specs.Types.{Member, BookType, default, pair, past_member, members_of, past_type, type_count, types_of, type_no}
 use Rattle.book.specs.Places.{from, member_at, type_at, Skipped, listed, later, earlier, Below, Started, After, types_by, index_count, indexed}
 use Rattle.book.specs.Rules.{head_ok, member_size, inside_ok, own_size_ok, codes_ok, bounds_ok, element_ok, count_ok, other_id, id_ok, link_ok, flags_ok, construct_ok, label_count_ok, first_of_union, first_id_ok, first_kind_ok, first_default_ok, first_label_ok}
-use Rattle.book.specs.Fault.{is_right, the_head, unless, ◌then◌, head_fault, own_fault, member_fault, members_fault, record_fault, records_fault, fault_of}
+use Rattle.book.specs.Fault.{is_right, the_head, unless, ◌then◌, own_fault, member_fault, members_fault, record_fault, records_fault, fault_of}
 use Rattle.book.proofs.Indexing.{index_types, take_indexed, length_places}
-use Rattle.book.proofs.Places.{label_count_is, run_more, run_none}
+use Rattle.book.proofs.Places.{run_more, run_none}
 use Rattle.book.proofs.Judging.{below_more, past_members, one_more, few_types}
 use Rattle.book.proofs.Faults.{head_rules, own_rules, right_nothing}
 

@@ -1,6 +1,6 @@
 -- The check at work: types that it passes, one for each kind; types that fail by one clause alone; chains of 16 and 17; a diamond of 64 records,
 -- whose paths no walk could follow one by one; example 1's book. All are computed from the definitions.
-use Prim.Native.Nat.{ℕ, zero, suc, ◌+◌, ◌-◌}
+use Prim.Native.Nat.{ℕ, zero, suc, ◌-◌}
 use mathlib.Core.Path.{◌≡◌, refl}
 use mathlib.Core.Bool.{Bool, true, false, not}
 use mathlib.Core.List.{List, [], ◌∷◌, ◌++◌}
@@ -13,7 +13,7 @@ use Rattle.book.specs.Rules.{other_id, id_ok, link_ok, flags_ok, construct_ok, l
 use Rattle.book.specs.Fault.{reason_number, fault_number, unless, ◌then◌, head_fault, fault_of}
 use Rattle.book.specs.Asked.{is_mutable, is_structure}
 use Rattle.fit.specs.Fit.{member_types, links_of, member_supported, members_supported, element_supported, base_supported, chooses, first_chooses, discriminator_fits, check_clauses, meets}
-use Rattle.fit.specs.Ids.{required, has_headers, id_fits, other_low, low_differ, ids_fit, clauses_for}
+use Rattle.fit.specs.Ids.{required, has_headers, ids_fit, clauses_for}
 use Rattle.fit.specs.Check.{check_of}
 use Rattle.fit.specs.Code.Check.{longest_from, with_own, chain_of, chains_of, fits}
 

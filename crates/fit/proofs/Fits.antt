@@ -5,7 +5,7 @@ use mathlib.Core.Bool.{Bool, true}
 use mathlib.Core.List.Memᴰ
 use mathlib.Core.List.{List, [], ◌∷◌}
 use native.Mathlib.Omega.{arith}
-use Rattle.ground.specs.Choice.{both, every}
+use Rattle.ground.specs.Choice.{every}
 use Rattle.ground.proofs.Tests.{both_first, both_second}
 use Rattle.kinds.specs.Kinds.{opens}
 use Rattle.book.specs.Types.{BookType, type_no}

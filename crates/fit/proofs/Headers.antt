@@ -1,12 +1,12 @@
 -- ORDER 3, WHAT IT IS FOR: in a type that passes no header fills two columns, and each member can be found. The statements cite only definitions of
 -- `specs/`. Assumes nothing.
-use Prim.Native.Nat.{ℕ, zero, suc, ◌≤◌, ◌<◌, ◌%◌, ◌^◌}
+use Prim.Native.Nat.{ℕ, zero, suc, ◌≤◌, ◌<◌}
 use mathlib.Core.Path.{◌≡◌, refl, sym, ap, ◌∙◌}
 use mathlib.Core.Logic.{⊎_elim}
-use mathlib.Core.Bool.{Bool, true, false, not, ◌||◌}
+use mathlib.Core.Bool.{Bool, true, false, ◌||◌}
 use mathlib.Core.List.{List, [], ◌∷◌}
 use native.Mathlib.Omega.{arith}
-use lib.Dec.{eqb, leb}
+use lib.Dec.{eqb}
 use lib.ListN.{length, get_or}
 use borrow.Author.Tests.{not-true, eqb-false, leb-true}
 use Rattle.ground.specs.Choice.{pick, both, every}
@@ -24,7 +24,7 @@ use Rattle.lookup.specs.declared.search.Seek.TheVariants.{Found}
 use Rattle.lookup.specs.declared.search.Turn.TheVariants.{Done}
 use Rattle.lookup.specs.Xcdr1 as xcdr1
 use Rattle.lookup.specs.Xcdr2 as xcdr2
-use Rattle.fit.specs.Fit.{Reach, Passes, meets}
+use Rattle.fit.specs.Fit.{Reach, meets}
 use Rattle.fit.specs.Ids.{has_headers, low_bits, id_fits, other_low, low_differ, ids_fit, clauses_for, UsedWith, any_encoding, xcdr2_only, header_id, words_of, IsHeaderOf, id_no, NoHeaderFillsTwo, EachHasHeader, held_by}
 use Rattle.fit.specs.Check.{check_of}
 use Rattle.fit.proofs.Exact.{below_or_not}

@@ -1,6 +1,6 @@
 -- HOW MANY ROWS A READING NEEDS: one law for each rule, in its order, over one hypothesis about how values are opened; then the depth. No law asks for a
 -- kind, and none for the mode. Assumes nothing.
-use Prim.Native.Nat.{ℕ, zero, suc, ◌+◌, ◌-◌}
+use Prim.Native.Nat.{ℕ, zero, suc, ◌+◌}
 use mathlib.Core.Path.{refl}
 use mathlib.Core.Bool.{Bool, true, false}
 use mathlib.Core.List.{List, [], ◌∷◌}

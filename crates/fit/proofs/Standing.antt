@@ -1,13 +1,13 @@
 -- Where a move, a number, a text and the contents of a value stand, and what their shortages tell: one predicate for each of their answers, over what
 -- is claimed. What was read stands inside the data that it is read from. Assumes nothing.
-use Prim.Native.Nat.{ℕ, zero, suc, ◌+◌, ◌-◌, ◌*◌, ◌/◌, ◌%◌, ◌≤◌, ◌<◌, min}
-use mathlib.Core.Path.{◌≡◌, refl, sym}
+use Prim.Native.Nat.{ℕ, zero, suc, ◌+◌, ◌-◌, ◌*◌, ◌/◌, ◌%◌, ◌≤◌, min}
+use mathlib.Core.Path.{◌≡◌, refl}
 use mathlib.Core.Bool.{Bool, true, false}
 use mathlib.Core.List.{List}
 use native.Mathlib.Omega.{arith}
 use native.Mathlib.Nat.{mod-le}
 use lib.Dec.{eqb, leb, ltb}
-use lib.ListN.{length, take}
+use lib.ListN.{length}
 use lib.Seq.{take_all}
 use borrow.Author.Tests.{leb-true, leb-false, ltb-false}
 use Rattle.wire.specs.declared.cursor.Cursor.{Cursor}
@@ -24,7 +24,7 @@ use Rattle.wire.specs.declared.number.Boolean.{Boolean}
 use Rattle.wire.specs.declared.number.Boolean.TheVariants as boolean
 use Rattle.wire.specs.declared.dheader.Contents.{Contents}
 use Rattle.wire.specs.declared.dheader.Contents.TheVariants as contents
-use Rattle.wire.specs.Place.{alignment_of, gap_of, padding_of, seek_to, align_to, after_move}
+use Rattle.wire.specs.Place.{alignment_of, padding_of, seek_to, align_to, after_move}
 use Rattle.wire.specs.Number.{on_bytes, number_here, on_aligned, read_number, boolean_in, on_byte, read_boolean, after_number}
 use Rattle.wire.specs.Ends.{keeps_ends, cut_at}
 use Rattle.wire.specs.Dheader.{up_to, dheader_at, delimited_by, contents_at}

@@ -1,23 +1,22 @@
 -- WHAT A SHORTAGE TELLS IS RIGHT (order 6): the walk over the rules, with that claim. Data of at most 65,532 bytes leads to no position and no need
 -- that a word would cut, so the need is the exact one, and it is over 0. Assumes nothing.
-use Prim.Native.Nat.{ℕ, zero, suc, ◌+◌, ◌-◌, ◌*◌, ◌^◌, ◌≤◌, ◌<◌}
-use mathlib.Core.Path.{◌≡◌, refl, sym, ap, ◌∙◌}
-use mathlib.Core.Bool.{true, false}
+use Prim.Native.Nat.{ℕ, zero, suc, ◌+◌, ◌^◌, ◌≤◌, ◌<◌}
+use mathlib.Core.Path.{◌≡◌, refl, ap, ◌∙◌}
+use mathlib.Core.Bool.{false}
 use mathlib.Core.List.{List, [], ◌∷◌}
 use native.Mathlib.Omega.{arith}
 use native.Mathlib.Nat.{zero-add}
 use lib.Dec.{lit<}
-use lib.ListN.{length, get_or, drop}
+use lib.ListN.{length, drop}
 use lib.Seq.{get_or-drop}
 use Rattle.wire.specs.declared.cursor.Cursor.{Cursor}
 use Rattle.wire.specs.declared.cursor.Shortage.{Shortage}
-use Rattle.wire.specs.declared.settings.ByteOrder.{ByteOrder}
 use Rattle.wire.specs.declared.settings.Settings.{Settings}
 use Rattle.wire.specs.Place.{short_at}
 use Rattle.wire.specs.Number.{number_at}
 use Rattle.wire.specs.Ends.{keeps_ends, cut_at}
-use Rattle.book.specs.Types.{BookType, byte, pair, quad, type_of, past_type, types_from, type_count, types_of, no_type, type_no}
-use Rattle.book.specs.Places.{from, type_at, types_by}
+use Rattle.book.specs.Types.{BookType, pair, type_of, past_type, types_from, type_count, types_of, no_type, type_no}
+use Rattle.book.specs.Places.{from, types_by}
 use Rattle.table.specs.Outcome.{Outcome, short}
 use Rattle.reader.specs.Nested.{reading}
 use Rattle.fit.specs.Demand3.{AreBytes}

@@ -21,7 +21,7 @@ use Rattle.wire.specs.declared.number.Number.TheVariants as number
 use Rattle.wire.specs.declared.number.Boolean.{Boolean}
 use Rattle.wire.specs.declared.dheader.Contents.{Contents}
 use Rattle.wire.specs.Place.{cursor_at, after_move}
-use Rattle.wire.specs.Number.{halves_of, read_float128, read_number, after_number}
+use Rattle.wire.specs.Number.{halves_of, read_float128, after_number}
 use Rattle.wire.specs.Ends.{keeps_ends, cut_at}
 use Rattle.wire.specs.Dheader.{after_contents}
 use Rattle.kinds.specs.Kinds.{is_primitive, opens, unsupported_member, unsupported_element, align_of, element_size_of}
@@ -52,7 +52,7 @@ use Rattle.reader.specs.Nested.{unheard, unheard_if, beginning_of, ending_by, en
 use Rattle.fit.proofs.Ends.{by_test}
 use Rattle.fit.proofs.Claims.{Claim}
 use Rattle.fit.proofs.Standing.{PlaceIn, place_in, no_place, NumberIn, number_in, no_number, BooleanIn, boolean_in_law, bad_boolean, no_boolean_law, TextIn, text_in, bad_text, no_text, ContentsIn, contents_in, contents_past, no_contents}
-use Rattle.fit.proofs.Standing.{after_move_law, after_number_law, seek_in, read_in, read_boolean_in, string_in, wstring_in, contents_at_in, unheard_at, kept_at, wanted_by}
+use Rattle.fit.proofs.Standing.{after_number_law, seek_in, read_in, read_boolean_in, string_in, wstring_in, contents_at_in, unheard_at, kept_at, wanted_by}
 use Rattle.fit.proofs.Searches.{SeekIn, found_in_law, not_found, no_seek, LocatedIn, located_in, absent_in, no_lookup, found_begins, found_wanted, seek_1, locate_in}
 
 -- each of these rows tells such a place

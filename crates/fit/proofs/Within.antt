@@ -1,15 +1,15 @@
 -- A POSITION NEVER PASSES THE DATA'S END, nor does the place of a row, but for XCDR2 in the crate's mode: the walk over the rules, with that claim. Assumes nothing.
 use Prim.Native.Nat.{ℕ, ◌+◌, ◌≤◌}
-use mathlib.Core.Path.{◌≡◌, sym, ◌∙◌}
+use mathlib.Core.Path.{◌≡◌}
 use mathlib.Core.Bool.{Bool, true, false}
 use mathlib.Core.List.{List}
 use native.Mathlib.Omega.{arith}
 use lib.ListN.{length}
 use Rattle.wire.specs.declared.cursor.Cursor.{Cursor}
 use Rattle.wire.specs.declared.settings.Settings.{Settings}
-use Rattle.wire.specs.declared.settings.Version.TheVariants.{Xcdr1, Xcdr2}
+use Rattle.wire.specs.declared.settings.Version.TheVariants.{Xcdr1}
 use Rattle.wire.specs.declared.settings.Mode.TheVariants.{Standard}
-use Rattle.wire.specs.Ends.{keeps_ends_by, keeps_ends, cut_at}
+use Rattle.wire.specs.Ends.{keeps_ends_by, cut_at}
 use Rattle.book.specs.Types.{BookType, Member}
 use Rattle.lookup.specs.declared.member.Located.TheVariants as located
 use Rattle.lookup.specs.Member.{locate}

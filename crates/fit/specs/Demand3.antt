@@ -1,5 +1,5 @@
 -- What demand 3 says of a reading, and what the check's number says of a book and a root.
-use Rattle.std.specs.Prelude.{ℕ, ◌≤◌, ◌<◌, ◌≡◌, Bool, true, false, List, get_or}
+use Rattle.std.specs.Prelude.{ℕ, ◌≤◌, ◌<◌, ◌≡◌, Bool, true, List, get_or}
 use Rattle.book.specs.Types.{BookType, type_count, types_of}
 use Rattle.book.specs.Rules.{book_ok}
 use Rattle.book.specs.declared.fault.Reason.{Reason}

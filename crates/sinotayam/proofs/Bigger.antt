@@ -15,7 +15,7 @@ use Rattle.wire.specs.Identifier.{settings_of}
 use Rattle.book.specs.Types.{BookType, types_of}
 use Rattle.book.specs.declared.fault.Fault.{Fault}
 use Rattle.book.specs.declared.fault.Fault.TheVariants.{Nothing, In}
-use Rattle.book.specs.Fault.{reason_number, fault_of}
+use Rattle.book.specs.Fault.{fault_of}
 use Rattle.book.proofs.Faults.{reason_told}
 use Rattle.table.specs.Rows.{capacity}
 use Rattle.table.specs.Outcome.{Outcome, read, short, refused, refusal_number, number_of}
@@ -26,7 +26,7 @@ use Rattle.fit.proofs.Bigger.{bigger_table, some_table}
 use Rattle.sinotayam.specs.declared.answer.Status.{Status}
 use Rattle.sinotayam.specs.declared.answer.Status.TheVariants.{Read, NotEnoughData, InvalidData, InvalidType, NotPrepared, BadRoot, TooLong, Unsupported, TooDeep, NoRoom, NoDiscriminator, BadBook}
 use Rattle.sinotayam.specs.declared.answer.Answer.{Answer}
-use Rattle.sinotayam.specs.Answer.{Result, code_of, refused_by, short_by, result_of, Settled, Returned}
+use Rattle.sinotayam.specs.Answer.{Result, code_of, refused_by, result_of, Settled, Returned}
 use Rattle.sinotayam.specs.Entry.{refused_if, short_if, under_four, by_identifier, message_by, data_by, by_fault, with_book, read_of, read_data_of}
 use Rattle.sinotayam.specs.Prepared.{places_in, types_in, with_index, read_prepared, read_data_prepared}
 use Rattle.sinotayam.specs.Room.{Listed, Steady, SameCall, SameWord}

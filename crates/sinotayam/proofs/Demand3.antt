@@ -23,7 +23,7 @@ use Rattle.fit.proofs.Demand3.{check_says, demand_3}
 use Rattle.sinotayam.specs.declared.answer.Status.{Status}
 use Rattle.sinotayam.specs.declared.answer.Status.TheVariants.{InvalidData, BadRoot, TooLong}
 use Rattle.sinotayam.specs.declared.answer.Answer.{Answer}
-use Rattle.sinotayam.specs.Answer.{Result, code_of, refused_by, short_by, result_of, Settled, Returned}
+use Rattle.sinotayam.specs.Answer.{Result, code_of, refused_by, result_of, Settled, Returned}
 use Rattle.sinotayam.specs.Entry.{refused_if, short_if, under_four, by_identifier, message_by, data_by, by_fault, with_book, read_of, read_data_of}
 use Rattle.sinotayam.specs.Prepared.{prepare_of, prepared_from, read_prepared, read_data_prepared}
 use Rattle.sinotayam.specs.Demand3.{CallNumber, of_reading, over_limit, Safe, SafeCall, SafeWord}

@@ -6,7 +6,6 @@ use mathlib.Core.List.{List}
 use native.Mathlib.Omega.{arith}
 use Rattle.ground.specs.Choice.{pick}
 use Rattle.wire.specs.declared.settings.Mode.{Mode}
-use Rattle.book.specs.Rules.{book_ok}
 use Rattle.book.specs.declared.fault.Fault.{Fault}
 use Rattle.book.specs.declared.fault.Fault.TheVariants.{Nothing, In}
 use Rattle.book.specs.Fault.{reason_number, fault_number, fault_of}

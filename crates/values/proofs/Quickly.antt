@@ -1,30 +1,29 @@
 -- Laws of the quick way: what it takes is what `scalar_of` says. Assumes nothing.
 use Prim.Native.Nat.{ℕ, zero, suc, ◌+◌, ◌-◌, ◌*◌, ◌≤◌, ◌<◌, ◌^◌}
 use mathlib.Core.Path.{◌≡◌, refl, sym, ap, ◌∙◌}
-use mathlib.Core.Bool.{Bool, true, false, not, ◌&&◌, ◌||◌, or-false}
-use mathlib.Core.List.{List, [], ◌∷◌}
+use mathlib.Core.Bool.{Bool, true, false, not, ◌&&◌}
+use mathlib.Core.List.{List}
 use native.Mathlib.Omega.{arith}
 use mir.Syntax.{w64}
 use mir.Val.{Fits}
-use lib.ListN.{length, get_or}
-use lib.Dec.{T, eqb, leb, leb→le, eqb→eq}
+use lib.ListN.{length}
+use lib.Dec.{T, eqb, leb, leb→le}
 use borrow.Author.Tests.{ne_eqb}
-use Rattle.ground.specs.Choice.{both, ◌‥◌, within, among}
+use Rattle.ground.specs.Choice.{both, ◌‥◌, within}
 use Rattle.ground.proofs.Tests.{and_both, both_left, both_right, inside}
-use Rattle.ground.proofs.Between.{between}
 use Rattle.wire.specs.declared.cursor.Cursor.{Cursor}
 use Rattle.wire.specs.declared.settings.Settings.{Settings}
 use Rattle.wire.specs.declared.number.Number.TheVariants as number
 use Rattle.wire.specs.declared.number.Boolean.TheVariants as boolean
 use Rattle.wire.specs.Place.{cursor_at, alignment_of, padding_of}
 use Rattle.wire.specs.Number.{number_at, read_number, read_boolean, on_byte, boolean_in}
-use Rattle.wire.proofs.Numbers.{read_there, byte_there}
+use Rattle.wire.proofs.Numbers.{read_there}
 use Rattle.text.specs.declared.string.Text.TheVariants as text
 use Rattle.text.specs.Unicode.{utf8}
 use Rattle.text.specs.Text.{part, string_type}
 use Rattle.text.proofs.Places.{string_there}
 use Rattle.kinds.specs.Kinds.{align_of, stored_of, is_primitive}
-use Rattle.kinds.proofs.Table.{primitive_align, own_stored}
+use Rattle.kinds.proofs.Table.{primitive_align}
 use Rattle.table.specs.declared.rows.Row.{Row}
 use Rattle.table.specs.declared.out.Out.TheVariants.{Read}
 use Rattle.table.specs.Rows.{row, width, room, no_room}

@@ -1,5 +1,4 @@
 -- The functions of the reader's cycle meet their contracts: one law for each way through. Assumes nothing.
-use Prim.Native.Nat.{◌-◌}
 use mathlib.Core.Path.{refl}
 use Rattle.table.proofs.Outcomes.{count_from, count_past}
 use Rattle.values.proofs.Scalars.{row_next}
@@ -9,7 +8,7 @@ use Rattle.reader.proofs.RunSteps.{run_turn, run_short, run_refused, run_end, ru
 use borrow.Author.Rules.{rules}
 use Rattle.reader.proofs.Rules.{as_nested_laws, body_laws, fmember_laws, inner_laws, found_laws, mmember_laws, option_laws, rest_laws, single_laws, fstruct_laws, mmembers_laws, chosen_laws, first_laws, parts_laws, elements_laws, listed_laws, value_laws}
 use Rattle.reader.proofs.LookedSteps.{mstruct_short, mstruct_members, mstruct_hint, looked_start, found_turn, found_short, found_refused, found_quick, found_next, found_still, looked_turn, looked_short, looked_refused, looked_end, found_at, own_at, small_as, hint_on, sum_fits, fewer}
-use Rattle.reader.proofs.PlainSteps.{fmember_quick, fmember_next, fmember_left, fmember_from, member_kind, by_three, found_taken}
+use Rattle.reader.proofs.PlainSteps.{fmember_quick, fmember_next, fmember_left, fmember_from, member_kind, found_taken}
 use Rattle.reader.proofs.MemberSteps.{fmember_opened, found_opened}
 use Rattle.book.proofs.Places.{is_inside}
 use native.Mathlib.Omega.{arith}
@@ -121,11 +120,11 @@ fmember-rest-requires t c = search (rules, fmember_laws)
 pub fmember-returns : goal.fmember-returns
 fmember-returns t c =
     elim c.if-is_there.branch [
-      fmember-then-is_there+then-not-m+else-past-gt0+else-opens w ↦
-        fmember_left _ _ _ _ _ _ _ _ w.head_there-m.ensures w.if-not-m.true w.kind_of-kind.ensures _ _ w.value_at-past.ensures _ w.if-past-gt0.false
-        (fmember_from _ _ _ _ _ _ _ _ w.t-is c.rest.ensures)
-    | fmember-then-is_there+else-not-m w ↦ fmember_from _ _ _ _ _ _ _ _ w.t-is c.rest.ensures
-    | fmember-else-is_there w ↦ fmember_from _ _ _ _ _ _ _ _ w.t-is c.rest.ensures
+      | fmember-then-is_there+then-not-m+else-past-gt0+else-opens w ↦
+          fmember_left _ _ _ _ _ _ _ _ w.head_there-m.ensures w.if-not-m.true w.kind_of-kind.ensures _ _ w.value_at-past.ensures _ w.if-past-gt0.false
+          (fmember_from _ _ _ _ _ _ _ _ w.t-is c.rest.ensures)
+      | fmember-then-is_there+else-not-m w ↦ fmember_from _ _ _ _ _ _ _ _ w.t-is c.rest.ensures
+      | fmember-else-is_there w ↦ fmember_from _ _ _ _ _ _ _ _ w.t-is c.rest.ensures
     ]
 
 pub inner-fstruct-requires : goal.inner-fstruct-requires

@@ -1,19 +1,16 @@
 -- The quick way of reading: what it takes is as the rules say, what it does not take it leaves alone.
 use Rattle.std.specs.Prelude.{ℕ, zero, suc, ◌+◌, ◌*◌, ◌≤◌, ◌<◌, ◌≡◌, Bool, not, List, [], ◌∷◌, length, eqb}
 use Rattle.ground.specs.Choice.{both, ◌‥◌, within, among}
-use Rattle.wire.specs.declared.cursor.Cursor.{Cursor}
 use Rattle.wire.specs.declared.settings.ByteOrder.{ByteOrder}
-use Rattle.wire.specs.declared.settings.Settings.{Settings}
 use Rattle.wire.specs.Place.{cursor_at}
 use Rattle.wire.specs.Number.{number_at}
 use Rattle.kinds.specs.Kinds.{align_of, stored_of}
 use Rattle.table.specs.declared.rows.Row.{Row}
 use Rattle.table.specs.Rows.{row, capacity}
-use Rattle.table.specs.Code.Rows.{put_row}
 use Rattle.table.specs.declared.out.Out.TheVariants.{Read}
 use Rattle.table.specs.Outcome.{Outcome}
 use Rattle.table.specs.Code.Outcome.{Done}
-use Rattle.values.specs.Scalar.{scalar_of, rowed, word_of}
+use Rattle.values.specs.Scalar.{word_of}
 
 -- the numbers of up to 8 bytes; a boolean is judged, and CHAR16 is unsupported
 unfoldable pub is_number : ℕ → Bool

@@ -1,6 +1,5 @@
 use borrow.Author.Rules.{rules}
 use Rattle.book.proofs.Indexing.{indexing_laws}
-use Prim.Native.Nat.{◌-◌}
 use Rattle.book.proofs.index.index.Goals as goal
 
 pub type_count-requires : goal.type_count-requires

@@ -1,4 +1,3 @@
-use Prim.Native.Nat.{◌-◌}
 use Rattle.book.proofs.Telling.{records_laws}
 use borrow.Author.Rules.{rules}
 use Rattle.book.proofs.judge.records_fault.Goals as goal

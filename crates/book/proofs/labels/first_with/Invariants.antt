@@ -1,7 +1,5 @@
 -- `book::labels::first_with`. The invariant: the first of the run that holds the label is the first of all.
 use mathlib.Core.Path.{◌≡◌}
-use mir.Syntax.{w32}
-use mir.Val.{to_z}
 use Rattle.book.specs.Places.{listed, type_at}
 use Rattle.book.specs.Labels.{first_with}
 use Rattle.book.proofs.labels.first_with.Given as goal

@@ -1,6 +1,5 @@
 use borrow.Author.Rules.{rules}
 use Rattle.book.proofs.Search.{in_bits, in_start, in_found, in_turn, in_none}
-use Prim.Native.Nat.{◌-◌}
 use Rattle.book.proofs.labels.holds.Goals as goal
 
 pub label_count-n-requires : goal.label_count-n-requires

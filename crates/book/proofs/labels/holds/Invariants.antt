@@ -2,8 +2,6 @@
 use Rattle.book.proofs.Search.{past}
 use Prim.Native.Nat.{◌-◌}
 use mathlib.Core.Path.{◌≡◌}
-use mir.Syntax.{w32}
-use mir.Val.{to_z}
 use Rattle.book.specs.Places.{member_at}
 use Rattle.book.specs.Labels.{is_in}
 use Rattle.book.proofs.labels.holds.Given as goal

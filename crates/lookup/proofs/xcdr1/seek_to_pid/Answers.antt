@@ -1,7 +1,6 @@
 use Rattle.lookup.specs.Xcdr1.{seek_to_pid}
 use Rattle.lookup.proofs.Turns.{rest_start, rest_done, rest_on, rest_less}
 use Rattle.lookup.proofs.Xcdr1Turns.{turn_moves}
-use Prim.Native.Nat.{◌-◌}
 use borrow.Author.Rules.{rules}
 use Rattle.lookup.proofs.xcdr1.seek_to_pid.Goals as goal
 

@@ -1,7 +1,6 @@
 use Rattle.lookup.specs.Xcdr2.{seek_to_pid}
 use Rattle.lookup.proofs.Turns.{rest_start, rest_done, rest_on, rest_less}
 use Rattle.lookup.proofs.Xcdr2Turns.{turn_moves}
-use Prim.Native.Nat.{◌-◌}
 use borrow.Author.Rules.{rules}
 use Rattle.lookup.proofs.xcdr2.seek_to_pid.Goals as goal
 

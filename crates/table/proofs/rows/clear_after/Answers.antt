@@ -1,6 +1,5 @@
 use native.Mathlib.Omega.{arith}
 use mathlib.Core.Path.{refl, ◌∙◌}
-use Prim.Native.Nat.{◌-◌}
 use lib.ListN.{length-set}
 use Rattle.table.proofs.Clearing.{cleared_turn, cleared_end}
 use Rattle.table.proofs.rows.clear_after.Goals as goal

@@ -1,4 +1,3 @@
-use Prim.Native.Nat.{◌-◌}
 use borrow.Author.Rules.{rules}
 use Rattle.text.proofs.Bytes.{byte_passed}
 use Rattle.text.proofs.utf8.past_ascii.Goals as goal

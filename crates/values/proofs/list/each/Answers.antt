@@ -1,4 +1,3 @@
-use Prim.Native.Nat.{◌-◌}
 use Rattle.values.proofs.Lists.{elements_start, elements_turn, elements_short, elements_refused, elements_end, elements_quick, elements_left, elements_next}
 use borrow.Author.Rules.{rules}
 use Rattle.values.proofs.list.each.Goals as goal

@@ -1,12 +1,5 @@
 use Rattle.values.proofs.Quickly.{is_free, number_so, quick_not, quick_kind}
 use borrow.Author.Rules.{rules}
-use Rattle.kinds.proofs.align_of.Reads as align-of-reads
-use Rattle.kinds.proofs.stored_of.Reads as stored-of-reads
-use Rattle.table.proofs.rows.is_full.Reads as is-full-reads
-use Rattle.values.proofs.quick.boolean_at.Reads as boolean-at-reads
-use Rattle.values.proofs.quick.is_number.Reads as is-number-reads
-use Rattle.values.proofs.quick.number_at.Reads as number-at-reads
-use Rattle.values.proofs.quick.text_at.Reads as text-at-reads
 use Rattle.values.proofs.quick.any_at.Goals as goal
 
 pub returns-then-is_full : goal.returns-then-is_full

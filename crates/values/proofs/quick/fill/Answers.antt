@@ -1,4 +1,3 @@
-use Prim.Native.Nat.{◌-◌}
 use Rattle.values.proofs.Quickly.{wide_some, wide_most}
 use Rattle.values.proofs.Runs.{fill_start, turn_inside, turn_fits, turn_place, fill_turn, fill_end}
 use borrow.Author.Rules.{rules}

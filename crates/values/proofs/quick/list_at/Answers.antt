@@ -3,10 +3,6 @@ use Rattle.values.proofs.Lists.{quick_list, quick_listless, quick_counted, none_
 use Rattle.values.proofs.Scalars.{row_next}
 use native.Mathlib.Omega.{arith}
 use borrow.Author.Rules.{rules}
-use Rattle.kinds.proofs.stored_of.Reads as stored-of-reads
-use Rattle.table.proofs.rows.is_full.Reads as is-full-reads
-use Rattle.table.proofs.rows.put_row.Reads as put-row-reads
-use Rattle.values.proofs.quick.numbers_at.Reads as numbers-at-reads
 use Rattle.values.proofs.quick.list_at.Goals as goal
 
 pub returns-then-is_full : goal.returns-then-is_full

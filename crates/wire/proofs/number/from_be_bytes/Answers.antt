@@ -1,4 +1,4 @@
-use Rattle.std.proofs.Common.{ℕ, ◌+◌, ◌-◌, ◌*◌, ◌^◌, ◌<◌, refl, ◌∙◌, arith, lit<, rules}
+use Rattle.std.proofs.Common.{refl, ◌∙◌, arith, lit<, rules}
 use Rattle.wire.proofs.Digits.{more_below, more_fits, be_step, number_none, start_below, ended_below}
 use Rattle.wire.proofs.number.from_be_bytes.Goals as goal
 
