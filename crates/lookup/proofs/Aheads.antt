@@ -5,10 +5,10 @@ use mathlib.Core.Bool.{Bool, true, false}
 use mathlib.Core.List.{List}
 use native.Mathlib.Omega.{arith}
 use lib.ListN.{length}
-use lib.Dec.{eqb}
-use borrow.Author.Tests.{eq-eqb, ne_eqb, lt-ltb, le-ltb}
+use lib.Dec.{eqb, leb}
+use borrow.Author.Tests.{eq-eqb, ne_eqb, lt-ltb, le-ltb, leb-true, leb-false}
 use Rattle.ground.specs.Choice.{pick, both, ◌‥◌, within}
-use Rattle.wire.specs.Place.{cursor_at, alignment_of, padding_of, seek_to, align_to, after_move}
+use Rattle.wire.specs.Place.{cursor_at, short_at, alignment_of, padding_of, seek_to, align_to, after_move}
 use Rattle.wire.specs.Number.{number_at, read_number, after_number}
 use Rattle.wire.specs.declared.settings.Settings.{Settings}
 use Rattle.wire.specs.declared.settings.Mode.{Mode}
@@ -18,13 +18,13 @@ use Rattle.wire.specs.declared.settings.Version.TheVariants.{Xcdr1, Xcdr2}
 use Rattle.wire.specs.declared.cursor.Cursor.{Cursor}
 use Rattle.wire.specs.declared.cursor.Place.TheVariants as place
 use Rattle.wire.specs.declared.number.Number.TheVariants as number
-use Rattle.wire.proofs.Moves.{seek_at, alignment_own, alignment_four, padding_by}
+use Rattle.wire.proofs.Moves.{seek_at, seek_short, alignment_own, alignment_four, padding_by}
 use Rattle.wire.proofs.Numbers.{Moved, read_aligned}
 use Rattle.lookup.specs.Search.{past_value, seek_by}
 use Rattle.lookup.specs.Xcdr1 as xcdr1
 use Rattle.lookup.specs.Xcdr2 as xcdr2
 use Rattle.lookup.specs.Member.{asked_for, located_v1, located_v2, looked_up, locate}
-use Rattle.lookup.specs.Code.Ahead.{search_by, Leads, HeaderId, NextIs, ahead_of, AheadAt, AheadIs, value_at, HeadAt, HeadOrEnd, LongHead, PassedTo}
+use Rattle.lookup.specs.Code.Ahead.{search_by, Leads, HeaderId, NextIs, ahead_of, AheadAt, AheadIs, value_at, HeadAt, HeadOrEnd, LongHead, PassedTo, PassedOver}
 use Rattle.lookup.specs.declared.search.Seek.{Seek}
 use Rattle.lookup.specs.declared.search.Seek.TheVariants.{Found, PidNotFound, Short}
 use Rattle.lookup.specs.declared.search.Turn.{Turn}
@@ -32,31 +32,31 @@ use Rattle.lookup.specs.declared.search.Turn.TheVariants.{Done, On}
 use Rattle.lookup.specs.declared.member.Located.TheVariants as located
 use Rattle.lookup.specs.declared.xcdr1.Header.TheVariants as header
 use Rattle.lookup.specs.declared.ahead.Ahead.{Ahead}
-use Rattle.lookup.proofs.Turns.{seek_done, seek_on}
+use Rattle.lookup.proofs.Turns.{done_on, on_same, seek_done, seek_on}
 use Rattle.lookup.proofs.Xcdr1Turns as turns1
 use Rattle.lookup.proofs.Xcdr2Turns as turns2
 
 -- one header, in the version's own way, and the search by it
-turn_by : List ℕ → Settings → Version → ℕ → Cursor → Turn
+pub turn_by : List ℕ → Settings → Version → ℕ → Cursor → Turn
 turn_by s set Xcdr1 id c = xcdr1.turn_at s set id c
 turn_by s set Xcdr2 id c = xcdr2.turn_at s set id c
 
 module _ (s : List ℕ) (set : Settings) where
-  by_turns : (v : Version) (id : ℕ) (c : Cursor) → search_by s set v id c ≡ seek_by s (turn_by s set v id) c
+  pub by_turns : (v : Version) (id : ℕ) (c : Cursor) → search_by s set v id c ≡ seek_by s (turn_by s set v id) c
   unfolding search_by turn_by xcdr1.seek_to_pid xcdr2.seek_to_pid
   by_turns Xcdr1 id c = refl
   by_turns Xcdr2 id c = refl
 
-  moves_by : (v : Version) (id : ℕ) (c d : Cursor) → turn_by s set v id c ≡ On d → Moved s c 4 d
+  pub moves_by : (v : Version) (id : ℕ) (c d : Cursor) → turn_by s set v id c ≡ On d → Moved s c 4 d
   unfolding turn_by
   moves_by Xcdr1 id c d e = turns1.turn_moves s set id c d e
   moves_by Xcdr2 id c d e = turns2.turn_moves s set id c d e
 
-  by_turn1 : (v : Version) (id : ℕ) (c : Cursor) → v ≡ Xcdr1 → turn_by s set v id c ≡ xcdr1.turn_at s set id c
+  pub by_turn1 : (v : Version) (id : ℕ) (c : Cursor) → v ≡ Xcdr1 → turn_by s set v id c ≡ xcdr1.turn_at s set id c
   unfolding turn_by
   by_turn1 v id c e = rw e
 
-  by_turn2 : (v : Version) (id : ℕ) (c : Cursor) → v ≡ Xcdr2 → turn_by s set v id c ≡ xcdr2.turn_at s set id c
+  pub by_turn2 : (v : Version) (id : ℕ) (c : Cursor) → v ≡ Xcdr2 → turn_by s set v id c ≡ xcdr2.turn_at s set id c
   unfolding turn_by
   by_turn2 v id c e = rw e
 
@@ -110,6 +110,36 @@ module _ (s : List ℕ) (pos n origin : ℕ) where
   passed_to p e o h =
       (record { inside = h; head = λ k. record { after = omega arith; aligned = omega arith; inside = k } }, λ k set. passed_on set p e h)
 
+  -- to nowhere, where that is past the end
+  not_passed : (set : Settings) (p : ℕ) → p ≡ (4 - (pos + n - origin) % 4) % 4 → length s < pos + n + p → (y : Cursor) → past_value s set (cursor_at pos origin) n ≡ On y → ⊥
+  unfolding past_value after_move align_to padding_of
+  not_passed set p e h y q = go (leb (pos + n) (length s)) refl
+    where
+      go : (t : Bool) → leb (pos + n) (length s) ≡ t → ⊥
+      go true l =
+          let a : seek_to s (cursor_at pos origin) n ≡ place.At (cursor_at (pos + n) origin) = sym (seek_at s (cursor_at pos origin) n (leb-true _ _ l)) in
+          let b : seek_to s (cursor_at (pos + n) origin) p ≡ place.Short (short_at s (cursor_at (pos + n) origin) p) = sym (seek_short s (cursor_at (pos + n) origin) p h) in
+          done_on (Short (short_at s (cursor_at (pos + n) origin) p)) y (rw (a, alignment_four set.version, ← e, b) at q)
+      go false l =
+          let a : seek_to s (cursor_at pos origin) n ≡ place.Short (short_at s (cursor_at pos origin) n) = sym (seek_short s (cursor_at pos origin) n (leb-false _ _ l)) in
+          done_on (Short (short_at s (cursor_at pos origin) n)) y (rw a at q)
+
+  pub over_end : (p : ℕ) → p ≡ (4 - (pos + n - origin) % 4) % 4 → length s < pos + n + p → PassedOver s (cursor_at pos origin) n (length s)
+  unfolding PassedOver
+  over_end p e h = (record { inside = omega arith; head = λ k. absurd (omega arith) }, λ k. absurd (omega arith), λ k set y q. absurd (not_passed set p e h y q), λ k. k)
+
+  pub over_to : (p : ℕ) → p ≡ (4 - (pos + n - origin) % 4) % 4 → origin ≤ pos → pos + n + p ≤ length s → PassedOver s (cursor_at pos origin) n (pos + n + p)
+  unfolding PassedOver
+  over_to p e o h = (
+    record { inside = h; head = λ k. record { after = omega arith; aligned = omega arith; inside = k } },
+    λ k set. passed_on set p e h,
+    λ k set y q. near k (on_same _ y (sym (passed_on set p e h) ∙ q)),
+    λ k. omega arith,
+  )
+    where
+      near : length s < pos + n + p + 4 → {y : Cursor} → cursor_at (pos + n + p) origin ≡ y → length s < y.pos + 4
+      near k {y} f = let g = ap (λ (z : Cursor). z.pos) f in omega (arith, k, g)
+
 -- the ids that headers have
 asked2 : (ver : Version) (w : ℕ) → ver ≡ Xcdr2 → asked_for ver w ≡ w
 unfolding asked_for
@@ -137,11 +167,11 @@ module _ (s : List ℕ) (set : Settings) (pos origin : ℕ) (head : HeadAt s pos
   unfolding padding_of
   no_padding = rw head.aligned
 
-  read4 : read_number s set (cursor_at pos origin) 4 ≡ number.Got (number_at set.order 0 s pos 4) (cursor_at (pos + 4) origin)
+  pub read4 : read_number s set (cursor_at pos origin) 4 ≡ number.Got (number_at set.order 0 s pos 4) (cursor_at (pos + 4) origin)
   read4 = read_aligned s set (cursor_at pos origin) 4 (rw (alignment_four set.version) no_padding) head.inside
 
   -- where NEXTINT is there too, it stands so as well
-  nextint_head : 8 ≤ length s - pos → HeadAt s (pos + 4) origin
+  pub nextint_head : 8 ≤ length s - pos → HeadAt s (pos + 4) origin
   nextint_head h = let a = head.after in let b = head.aligned in let i = head.inside in
       record { after = omega arith; aligned = omega arith; inside = omega arith }
 
@@ -158,11 +188,11 @@ length_near Standard lc n m e = go (within (5 ‥ 7) lc) e
 -- an XCDR2 header
 module _ (s : List ℕ) (set : Settings) (pos origin : ℕ) (head : HeadAt s pos origin) (version : set.version ≡ Xcdr2) (v : ℕ) (is : v ≡ number_at set.order 0 s pos 4) where
   module _ (n : ℕ) (y : Cursor) (told : xcdr2.length_of s set v (cursor_at (pos + 4) origin) ≡ number.Got n y) where
-    turned2 : (w : ℕ) → xcdr2.turn_at s set w (cursor_at pos origin) ≡ xcdr2.verdict s set w v n y
+    pub turned2 : (w : ℕ) → xcdr2.turn_at s set w (cursor_at pos origin) ≡ xcdr2.verdict s set w v n y
     unfolding xcdr2.turn_at after_number
     turned2 w = rw (read4 s set pos origin head, ← is, told)
 
-    judged2 : (w : ℕ) → turn_by s set set.version w (cursor_at pos origin) ≡ xcdr2.verdict s set w v n y
+    pub judged2 : (w : ℕ) → turn_by s set set.version w (cursor_at pos origin) ≡ xcdr2.verdict s set w v n y
     judged2 w = by_turn2 s set set.version w (cursor_at pos origin) version ∙ turned2 w
 
     ahead2 : (m value next : ℕ) (r : Ahead) → r ≡ ahead_of value m next → m ≡ xcdr2.length_from set.mode (xcdr2.lc_of v) n → xcdr2.value_from set.mode (xcdr2.lc_of v) y ≡ cursor_at value origin → y.origin ≡ origin → PassedTo s y n next → value + m ≤ length s + 2 ^ 36
@@ -182,7 +212,7 @@ module _ (s : List ℕ) (set : Settings) (pos origin : ℕ) (head : HeadAt s pos
 
 -- a length code from 4 on has it in NEXTINT
 module _ (s : List ℕ) (set : Settings) (v pos origin : ℕ) (long : LongHead s set v pos origin) (there : 8 ≤ length s - pos) (m u : ℕ) (is : m ≡ number_at set.order 0 s (pos + 4) 4) (lc : ℕ) (code : lc ≡ xcdr2.lc_of v) (unit : u ≡ xcdr2.unit_of lc) where
-  told_long : xcdr2.length_of s set v (cursor_at (pos + 4) origin) ≡ number.Got (m * u) (cursor_at (pos + 4 + 4) origin)
+  pub told_long : xcdr2.length_of s set v (cursor_at (pos + 4) origin) ≡ number.Got (m * u) (cursor_at (pos + 4 + 4) origin)
   unfolding xcdr2.length_of xcdr2.length_by_lc xcdr2.nextint_times after_number
   told_long = rw (le-ltb _ _ long.code, read4 s set (pos + 4) origin (nextint_head s set pos origin long.head there), ← is, ← code, ← unit)
 
@@ -222,7 +252,7 @@ module _ (s : List ℕ) (set : Settings) (pos origin : ℕ) (head : HeadAt s pos
     unfolding xcdr1.turn_at xcdr1.on_header
     turned1 w = rw (header1, ← is, ← told)
 
-    judged1 : (w : ℕ) → turn_by s set set.version w (cursor_at pos origin) ≡ xcdr1.verdict s set w (v % 16384) n (cursor_at (pos + 4) origin)
+    pub judged1 : (w : ℕ) → turn_by s set set.version w (cursor_at pos origin) ≡ xcdr1.verdict s set w (v % 16384) n (cursor_at (pos + 4) origin)
     judged1 w = by_turn1 s set set.version w (cursor_at pos origin) version ∙ turned1 w
 
     pub ahead1 : (i id next : ℕ) → i ≡ xcdr1.id_of v → i ≡ id → (n ≡ 0 → ⊥) → n < 256 ^ 2 → PassedTo s (cursor_at (pos + 4) origin) n next
@@ -257,7 +287,7 @@ module _ (version : Version) (pos origin : ℕ) (r : Cursor) where
 
 -- what the callers have of it: the lookup, and the place to ask for the next member
 module _ (s : List ℕ) (set : Settings) where
-  looked : (ver : Version) (id n v o : ℕ) (back : Cursor) → search_by s set ver id back ≡ Found n (cursor_at v o) → (ver ≡ Xcdr1 → 0 < n) → looked_up s set ver id back ≡ located.Found n (value_at ver v o) back
+  pub looked : (ver : Version) (id n v o : ℕ) (back : Cursor) → search_by s set ver id back ≡ Found n (cursor_at v o) → (ver ≡ Xcdr1 → 0 < n) → looked_up s set ver id back ≡ located.Found n (value_at ver v o) back
   unfolding search_by looked_up located_v1 located_v2 value_at
   looked Xcdr1 id n v o back e h = rw (e, lt-ltb _ _ (h refl))
   looked Xcdr2 id n v o back e h = rw e

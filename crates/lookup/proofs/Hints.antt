@@ -68,7 +68,7 @@ hinted_sentinel s set back h hint v l left d e r is =
 
 -- where the lookups begin
 module _ (s : List ℕ) (set : Settings) (f : Bool) (c : Cursor) where
-  already : c.pos ≤ length s → (c.pos - c.origin) % 4 ≡ 0 → align_to s set.version c 4 ≡ place.At c
+  pub already : c.pos ≤ length s → (c.pos - c.origin) % 4 ≡ 0 → align_to s set.version c 4 ≡ place.At c
   unfolding align_to padding_of
   already i a = rw (alignment_four set.version, a) (sym (seek_at s c 0 (omega arith)) ∙ ap (λ (x : ℕ). place.At (cursor_at x c.origin)) (add-zero c.pos))
 

@@ -5,3 +5,4 @@ pub mod Members
 mod Examples
 pub mod Aheads
 pub mod Hints
+pub mod Leading

@@ -25,6 +25,9 @@ use Rattle.lookup.specs.declared.search.Turn.TheVariants.{Done, On}
 pub done_on : (f : Seek) (d : Cursor) → Done f ≡ On d → ⊥
 done_on f d e = let z : ◌≡◌ {A = ℕ} 0 1 = cc in omega arith
 
+pub on_same : (d y : Cursor) → On d ≡ On y → d ≡ y
+on_same d y e = cc
+
 on_missing : (d : Cursor) → On d ≡ Done PidNotFound → ⊥
 on_missing d e = let z : ◌≡◌ {A = ℕ} 0 1 = cc in omega arith
 
@@ -76,9 +79,6 @@ past_moves s set c n y e =
       inside = omega (arith, l.1, gp);
       kept = sym (ap (λ (z : Cursor). z.origin) g) ∙ l.2 ∙ sym (ap (λ (z : Cursor). z.origin) k.1);
     }
-  where
-    on_same : (d y : Cursor) → On d ≡ On y → d ≡ y
-    on_same d y e = cc
 
 pub past_there : (s : List ℕ) (set : Settings) (c : Cursor) (n : ℕ) → past_value s set c n ≡ Done PidNotFound → ⊥
 unfolding past_value

@@ -44,7 +44,7 @@ module _ (s : List ℕ) (set : Settings) (c : Cursor) (r : Number) (is : ReadIs 
     header_got n y e i j = rw (j, sym is.is ∙ first, sym then.is ∙ e)
 
 -- the code's test of the end
-is_end_law : (id n : ℕ) (t : Bool) → (eqb id 0x3F02 && eqb n 0) ≡ t → is_end id n ≡ t
+pub is_end_law : (id n : ℕ) (t : Bool) → (eqb id 0x3F02 && eqb n 0) ≡ t → is_end id n ≡ t
 is_end_law id n t e = sym (and_both (eqb id 0x3F02) (eqb n 0)) ∙ e
 
 -- what a header comes to
@@ -78,7 +78,7 @@ got_same : (i m : ℕ) (y : Cursor) (id n : ℕ) (d : Cursor) → header.Got i m
 got_same i m y id n d e = cc
 
 module _ (s : List ℕ) (set : Settings) where
-  header_moves : (c : Cursor) (id n : ℕ) (d : Cursor) → header_at s set c ≡ header.Got id n d → Moved s c 4 d
+  pub header_moves : (c : Cursor) (id n : ℕ) (d : Cursor) → header_at s set c ≡ header.Got id n d → Moved s c 4 d
   unfolding header_at
   header_moves c id n d e =
       let a = number_inv header.Short (header.Got id n d) (λ x. short_got x id n d) (read_number s set c 2) _ e in

@@ -1,2 +1,3 @@
 -- The shape of the code: no rule stands in this folder.
 pub mod Ahead
+pub mod Straight

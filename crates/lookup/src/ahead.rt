@@ -2,7 +2,7 @@
 // where it is the wanted one, no search from the structure's start is needed. Whoever is told 0 searches as ever, so this stays narrow.
 ghost use Rattle.std.specs.Prelude.{◌≡◌, ◌≤◌, ◌<◌, ◌^◌, length};
 ghost use Rattle.wire.specs.Place.{cursor_at};
-ghost use Rattle.lookup.specs.Code.Ahead.{ahead_of, AheadIs, HeaderAhead, StartIs, TrueHint, hint_at, hint_after, value_at, HeadAt, HeadOrEnd, LongHead, PassedTo};
+ghost use Rattle.lookup.specs.Code.Ahead.{ahead_of, AheadIs, HeaderAhead, StartIs, TrueHint, hint_at, hint_after, value_at, HeadAt, HeadOrEnd, LongHead, PassedTo, PassedOver};
 ghost use Rattle.lookup.specs.Xcdr1.{seek_to_sentinel};
 ghost use Rattle.lookup.specs.Xcdr2.{id_of};
 
@@ -39,9 +39,10 @@ pub fn no_header() -> Ahead
 }
 
 // Where the next header stands: past a value, aligned to 4 from the origin; the data's end where that is past it.
-fn next_header(s: &[u8], at: usize, size: u64, origin: usize) -> usize
+pub fn next_header(s: &[u8], at: usize, size: u64, origin: usize) -> usize
     requires { (origin ≤ at) × (at ≤ length s.now) × (size ≤ 2 ^ 35) }
-    ensures { PassedTo s.now (cursor_at at origin) size result }
+    ensures to { PassedTo s.now (cursor_at at origin) size result }
+    ensures over { PassedOver s.now (cursor_at at origin) size result }
 {
     let end = s.len();
     let to = at + (size as usize);
@@ -75,7 +76,7 @@ fn with_nextint(s: &[u8], set: Settings, emheader: u64, pos: usize, origin: usiz
 }
 
 // A header of XCDR2.
-fn xcdr2(s: &[u8], set: Settings, wanted: u64, pos: usize, origin: usize) -> Ahead
+pub fn xcdr2(s: &[u8], set: Settings, wanted: u64, pos: usize, origin: usize) -> Ahead
     requires { HeadAt s.now pos origin × (set.version ≡ Version.Xcdr2) }
     ensures { AheadIs s.now set wanted (cursor_at pos origin) result }
 {
@@ -100,7 +101,7 @@ fn xcdr2(s: &[u8], set: Settings, wanted: u64, pos: usize, origin: usize) -> Ahe
 }
 
 // A header of XCDR1. An empty one is left to the search, and so is the end marker.
-fn xcdr1(s: &[u8], set: Settings, wanted: u64, pos: usize, origin: usize) -> Ahead
+pub fn xcdr1(s: &[u8], set: Settings, wanted: u64, pos: usize, origin: usize) -> Ahead
     requires { HeadAt s.now pos origin × (set.version ≡ Version.Xcdr1) }
     ensures { AheadIs s.now set wanted (cursor_at pos origin) result }
 {

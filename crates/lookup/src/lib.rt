@@ -4,5 +4,6 @@
 pub mod ahead;
 pub mod member;
 pub mod search;
+pub mod straight;
 pub mod xcdr1;
 pub mod xcdr2;

@@ -119,6 +119,10 @@ kind_here b index ty q k at is h = is ∙ ap read_as at.is
 pub member_kind : (b index : List ℕ) (p ty k : ℕ) → ty ≡ (member_at b p).type → (0 < k → k ≡ read_as (type_no (types_by b index) ty)) → 0 < k → k ≡ read_as (type_no (types_by b index) (member_at b p).type)
 member_kind b index p ty k e is h = is h ∙ ap (λ (x : ℕ). read_as (type_no (types_by b index) x)) e
 
+-- who opens nothing
+idle : Nest
+idle w ty id e k = read e []
+
 -- what the quick way took is the member's
 module _ (b index s : List ℕ) (set : Settings) (p : ℕ) (c : Cursor) (t : List ℕ) (n : ℕ) where
   module _ (ty k i : ℕ) (type : ty ≡ (member_at b p).type) (read : 0 < k → k ≡ read_as (type_no (types_by b index) ty)) (named : i ≡ (member_at b p).id)
@@ -143,6 +147,16 @@ module _ (b index s : List ℕ) (set : Settings) (p : ℕ) (c : Cursor) (t : Lis
         found_is : is_taken k ≡ true → found_value (types_by b index) s set nest (member_at b p) length c (room t n) ≡ scalar_of s set k i c (room t n)
         found_is y = rw (← type, taken_other (types_by b index) s set nest ty i c (room t n) k y (read_as_law y) set.version set.mode) (rw type (value_is y nest))
 
+    -- .. and so it is done, or left as it was
+    pub found_done : 0 < r → (nest : Nest) (length : ℕ) → Done (found_value (types_by b index) s set nest (member_at b p) length c (room t n)) n t u (Read (cursor_at r c.origin) (n + 1))
+    found_done h nest length = quick_done 1 r h (found_taken nest length)
+
+    pub found_fits : 0 < r → length t < 2 ^ 64 → Fits w64 (n + 1)
+    found_fits h l = quick_next _ _ _ _ _ r h (found_taken idle 0) l
+
+    pub found_left : r ≤ 0 → (nest : Nest) (length : ℕ) {v : List ℕ} {x : Out} → Done (found_value (types_by b index) s set nest (member_at b p) length c (room u n)) n u v x → Done (found_value (types_by b index) s set nest (member_at b p) length c (room t n)) n t v x
+    found_left h nest length l = rw (quick_none _ 1 n c.origin t u r h (found_taken nest length)) at l
+
 -- .. so a member that is not optional was taken, or left as it was
 module _ (b index s : List ℕ) (set : Settings) (p : ℕ) (c : Cursor) (t : List ℕ) (n : ℕ) {m : Head} (head : HeadOf (member_at b p) m) (never : not m.optional ≡ true) {k : ℕ} (read_as_law : 0 < k → k ≡ read_as (type_no (types_by b index) m.ty))
     (u : List ℕ) (r : ℕ) (d : Quickly (scalar_of s set k m.id c (room t n)) 1 n c.origin t u r × (0 < r → is_taken k ≡ true)) where
@@ -154,7 +168,7 @@ module _ (b index s : List ℕ) (set : Settings) (p : ℕ) (c : Cursor) (t : Lis
 
   -- a row that was written has its place
   pub fmember_next : 0 < r → length t < 2 ^ 64 → Fits w64 (n + 1)
-  fmember_next h l = quick_next _ _ _ _ _ r h (quickly (λ w ty id e k. read e [])) l
+  fmember_next h l = quick_next _ _ _ _ _ r h (quickly idle) l
 
   pub fmember_left : (nest : Nest) → r ≤ 0 → {v : List ℕ} {x : Out} → Done (fmember_of (types_by b index) s set nest (member_at b p) c (room u n)) n u v x → Done (fmember_of (types_by b index) s set nest (member_at b p) c (room t n)) n t v x
   fmember_left nest h l = rw (quick_none _ 1 n c.origin t u r h (quickly nest)) at l

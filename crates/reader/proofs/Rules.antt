@@ -3,7 +3,7 @@ use Rattle.table.proofs.Filling.{full_fits}
 use Rattle.values.proofs.Quickly.{quick_next}
 use Rattle.values.proofs.Scalars.{row_next}
 use Rattle.reader.proofs.RunSteps.{run_start, run_end}
-use Rattle.reader.proofs.ValueSteps.{elements_unsupported, elements_full, elements_opened, elements_plain, value_none, value_unsupported, value_nested, value_list, value_taken, value_left, list_short, list_past, list_uncounted, list_there, list_rest}
+use Rattle.reader.proofs.ValueSteps.{elements_unsupported, elements_full, elements_opened, elements_none, elements_plain, value_none, value_unsupported, value_nested, value_list, value_taken, value_left, list_short, list_past, list_uncounted, list_there, list_rest}
 use Rattle.reader.proofs.ListSteps.{list_taken, list_left}
 use Rattle.reader.proofs.MemberSteps.{found_length, found_value_law, found_opens, mmember_short, mmember_absent, mmember_read, mmember_fell, mmember_refused, optional_looked, optional_short, optional_bad, optional_absent, optional_present, fmember_optional, fmember_value}
 use Rattle.reader.proofs.StructureSteps.{fmembers_start, fmembers_end}
@@ -43,4 +43,4 @@ pub ruleset value_laws = (value_none, value_unsupported, value_nested, value_lis
 
 pub ruleset listed_laws = (list_short, list_past, list_uncounted, list_there, list_rest)
 
-pub ruleset elements_laws = (elements_unsupported, elements_full, elements_opened, elements_plain, full_fits, row_next)
+pub ruleset elements_laws = (elements_unsupported, elements_full, elements_none, elements_opened, elements_plain, full_fits, row_next)

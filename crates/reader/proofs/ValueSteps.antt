@@ -101,6 +101,12 @@ module _ (b index s : List ℕ) (set : Settings) (nest : Nest) (ty id : ℕ) (c 
           is_same (opened_list_law h ∙ some_room t n _ z i j ∙ ap (λ (m : ℕ). prepend (row 25 id k count c.pos ∷ []) (opened_from (types_by b index) s set nest ty count 0 c m)) (room_used t u n 1 w.long)
           ∙ ap (prepend (row 25 id k count c.pos ∷ [])) (sym (run_list (types_by b index) s set nest ty count 0 c (room u (n + 1))))) (is_after w d)
 
+      -- .. of which there is none
+      pub elements_none : y ≡ true → (z : Bool) → z ≡ no_room t n → z ≡ false → (i₁ i₂ : ℕ) → i₁ ≡ stored_of 25 → i₂ ≡ stored_of k → (u : List ℕ) → u ≡ put_row t n (row i₁ id i₂ count c.pos) → count ≡ 0 → Done elements n t u (Read c (n + 1))
+      unfolding run_of
+      elements_none h z i j i₁ i₂ l m u q none =
+          elements_opened h z i j i₁ i₂ l m u q u (Read c (n + 1)) (is_read {rs = []} (ap (λ (x : ℕ). run_of nest s ty 0 x 0 c (room u (n + 1))) none) (sym (add-zero (n + 1))) (filled_none u (n + 1)))
+
       -- what opens nothing: both sorts of lists, of which a primitive is read as its own kind
       pub elements_plain : y ≡ false → (a : ℕ) → a ≡ read_as (type_at b p) → (u : List ℕ) (r : Out) → Done (plain_of (eqb k 2 || eqb k 13) s set a id count c (room t n)) n t u r → Done elements n t u r
       unfolding elements_of

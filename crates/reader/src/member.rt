@@ -5,14 +5,18 @@ ghost use Rattle.table.specs.Code.Outcome.{Done};
 ghost use Rattle.reader.specs.Code.Cycle.{found_in, mmember_in, optional_in};
 
 use crate::as_nested;
+use crate::plain::kind_found;
 use crate::types::{by_length, element_count};
 use crate::value::{elements, value};
 use book::asked::kind_at;
 use book::index::place;
 use book::member::{id, type_index};
 use book::types::element;
+use lookup::ahead::value_at;
 use lookup::member::{Located, locate};
+use lookup::straight::look_up;
 use table::out::{Out, Refusal};
+use values::quick::any_at;
 use wire::cursor::Cursor;
 use wire::dheader::cut;
 use wire::number::Boolean;
@@ -75,7 +79,29 @@ pub fn mmember(
 ) -> Out
     ensures { Done (mmember_in book.now index.now s.now set depth (member_at book.now p) c (room t.old n)) n t.old t.new result }
 {
-    match locate(s, set, id(book, p), c) {
+    let wanted = id(book, p);
+    let sought = look_up(s, set, wanted, c);
+    let v = sought.value;
+    if 0 < v {
+        let version = set.version;
+        let length = sought.length;
+        let d = value_at(version, v, c.origin);
+        let own = cut(s, set, 0, (v as u64) + length);
+        let kind = kind_found(book, index, p);
+        let past = any_at(own, set, t, kind, wanted as u64, d, n);
+        if 0 < past {
+            return Out::Read(c, n + 1);
+        }
+        return match found(book, index, own, set, t, p, length, d, n, depth) {
+            Out::Read(_, m) => Out::Read(c, m),
+            Out::Short(x) => Out::Short(x.back_to(c)),
+            Out::Refused(k) => Out::Refused(k),
+        };
+    }
+    if sought.absent {
+        return Out::Read(c, n);
+    }
+    match locate(s, set, wanted, c) {
         Located::Short(x) => Out::Short(x),
         Located::Absent(back) => Out::Read(back, n),
         Located::Found(length, d, back) => {

@@ -131,6 +131,9 @@ pub fn elements(
             place: c.pos as u64,
         };
         put_row(t, n, row);
+        if count == 0 {
+            return Out::Read(c, n + 1);
+        }
         return as_nested(book, index, s, set, t, ty, 0, count, c, n + 1, depth);
     }
     let bytes = (kind == BYTE) | (kind == UINT8);

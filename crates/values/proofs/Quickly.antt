@@ -1,7 +1,7 @@
 -- Laws of the quick way: what it takes is what `scalar_of` says. Assumes nothing.
 use Prim.Native.Nat.{ℕ, zero, suc, ◌+◌, ◌-◌, ◌*◌, ◌≤◌, ◌<◌, ◌^◌}
 use mathlib.Core.Path.{◌≡◌, refl, sym, ap, ◌∙◌}
-use mathlib.Core.Bool.{Bool, true, false, not, ◌&&◌}
+use mathlib.Core.Bool.{Bool, true, false, not, ◌&&◌, ◌||◌}
 use mathlib.Core.List.{List}
 use native.Mathlib.Omega.{arith}
 use mir.Syntax.{w64}
@@ -10,6 +10,7 @@ use lib.ListN.{length}
 use lib.Dec.{T, eqb, leb, leb→le}
 use borrow.Author.Tests.{ne_eqb}
 use Rattle.ground.specs.Choice.{both, ◌‥◌, within}
+use Rattle.ground.proofs.Between.{between}
 use Rattle.ground.proofs.Tests.{and_both, both_left, both_right, inside}
 use Rattle.wire.specs.declared.cursor.Cursor.{Cursor}
 use Rattle.wire.specs.declared.settings.Settings.{Settings}
@@ -187,6 +188,26 @@ module _ (s : List ℕ) (set : Settings) (id : ℕ) (c : Cursor) (t : List ℕ) 
       let k : string_type s set c ≡ text.Got start (v - 1) (cursor_at (start + v) c.origin) = string_there s set c start v z some fits (sym g ∙ k') in
       let b : place_before 4 start ≡ q = rw e (read_begins q 4) in
       quick_row (scalar_of s set 16 id c (room t n)) t n c.origin (start + v) (row 16 id start (v - 1) q) (rw (k, b)) (omega arith) free u put
+
+-- a boolean, a text and a number are taken
+pub taken_boolean : (kind : ℕ) → kind ≡ 1 → is_taken kind ≡ true
+unfolding is_taken
+taken_boolean kind e = rw e
+
+pub taken_text : (kind : ℕ) → kind ≡ 16 → is_taken kind ≡ true
+unfolding is_taken
+taken_text kind e = rw e
+
+pub taken_number : (kind : ℕ) (b : Bool) → b ≡ is_number kind → b ≡ true → is_taken kind ≡ true
+unfolding is_taken
+taken_number kind b is h =
+    let r = ranged kind (sym is ∙ h) in
+    go (eqb kind 11) (ne_eqb kind 11 r.other) (is_taken kind) (between (λ k. eqb k 11 || is_taken k) 13 2 tt kind r.from (omega (arith, r.to)))
+  where
+    go : (y : Bool) → y ≡ false → (x : Bool) → T (y || x) → x ≡ true
+    go true e x t = absurd (let z : ◌≡◌ {A = ℕ} 0 1 = cc in omega arith)
+    go false e true t = refl
+    go false e false t = absurd t
 
 -- what is taken, by the kind that it is
 module _ (kind k : ℕ) (e : kind ≡ k) where

@@ -255,7 +255,8 @@ pub fn any_at(
     at: Cursor,
     n: usize,
 ) -> usize
-    ensures { Quickly (scalar_of s.now set kind id at (room t.old n)) 1 n at.origin t.old t.new result }
+    ensures quickly { Quickly (scalar_of s.now set kind id at (room t.old n)) 1 n at.origin t.old t.new result }
+    ensures taken { 0 < result → is_taken kind ≡ true }
 {
     if is_full(t, n) {
         return 0;
