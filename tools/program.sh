@@ -2,22 +2,16 @@
 
 # Whether FILE is there and no older than the code.
 is_fresh() { # FILE
-    [ -x "$1" ] && [ -z "$(find "$root/crates" "$root/crates.txt" -newer "$1" \( -name '*.rt' -o -name '*.antt' -o -name crates.txt \) -print -quit)" ]
+    [ -x "$1" ] && [ -z "$(find "$root/crates" "$root/crates.txt" -name out -prune -o -newer "$1" \( -name '*.rt' -o -name '*.antt' -o -name crates.txt \) -print -quit)" ]
 }
 
-# The program as target/unproved/bin/NAME, from code that nothing proves: its module is kept when rt tries it, here on an input of nothing.
+# The program as target/unproved/bin/NAME, from code that nothing proves: of the module that rt tries, with its checks.
 build_unproved() { # NAME
     local work=$root/target/unproved/$1
-    rm -rf "$work"
-    mkdir -p "$work/crates" "$root/target/unproved/bin"
-    cp -r "$root"/crates/* "$work/crates/"
-    cp "$root/crates.txt" "$work/"
-    : >"$work/crates/$1/stdin"
-    if [ "$1" = rows ]; then echo input >"$work/crates/$1/stdout"; else : >"$work/crates/$1/stdout"; fi
-    kit_that_keeps_modules "$work/kit"
-    (cd "$work" && RATTLE_HOME=$work/kit rt try "$1") >"$work/log" 2>&1 || { tail -n 20 "$work/log" >&2 && exit 1; }
-    "$tools/bin/clang" --target=$x86 -march=x86-64 -O3 -fPIE -mllvm -trap-unreachable -mllvm -no-trap-after-noreturn -x ir -c "$work/kit/module-O3.bc" -o "$work/$1.o"
-    "$kit/on/$m/bin/rattle-link" --target $x86 --toolchain "$tools" -o "$root/target/unproved/bin/$1" "$work/$1.o" >"$work/link.log" 2>&1 || { cat "$work/link.log" >&2 && exit 1; }
+    mkdir -p "$work" "$root/target/unproved/bin"
+    unproved_module "$root/crates/$1" "$work/kit"
+    module_object "$work/kit/module.bc" "$work/$1.o"
+    "$kit/bin/rattle-link" --target $x86 --toolchain "$tools" -o "$root/target/unproved/bin/$1" "$work/$1.o" "$kit"/c/lib*_c.a >"$work/link.log" 2>&1 || { cat "$work/link.log" >&2 && exit 1; }
 }
 
 # In `run`, the words that run the program, which is made first where it is missing or older than the code.
@@ -30,15 +24,16 @@ program() { # NAME --unproved, or NAME
         fi
     else
         # rt leaves a program that is still good as it is, however old: so a mark of its own says when it was last asked for.
-        made=$root/target/bin/$1
+        made=$root/crates/$1/out/$1
         mark=$root/target/tools/$1
         if ! { [ -x "$made" ] && is_fresh "$mark"; }; then
             echo "$me: proving the program '$1' and the $(crates_below "$1") crates that it stands on, each named when it is done; some ten minutes where nothing is proved yet ($me --unproved takes half a minute, and proves nothing)" >&2
-            (cd "$root" && rt check "$1") >&2 || exit 1
+            # rt makes a program and runs it, here on an input of nothing
+            (cd "$root/crates/$1" && rt run </dev/null >/dev/null) || exit 1
             mkdir -p "${mark%/*}"
             : >"$mark"
             chmod +x "$mark"
         fi
     fi
-    words_for "$made"
+    run=("$made")
 }

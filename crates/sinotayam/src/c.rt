@@ -1,5 +1,5 @@
-// The calls for C and Rust: include/sinotayam.h declares them. A slice is a pointer and a length there. Nothing is required of any.
-// A reading call is lent two words, for what is told of a shortage.
+// What the calls for C and Rust do: crate sinotayam_c exports each under its name here, with the clauses that stand here, and
+// include/sinotayam.h declares them. Nothing is required of any. A reading call is lent two words, for what is told of a shortage.
 ghost use Rattle.std.specs.Prelude.{◌≡◌, not, eqb};
 ghost use Rattle.book.specs.Fault.{fault_word, fault_of};
 ghost use Rattle.table.specs.Rows.{capacity};
@@ -39,8 +39,7 @@ fn mode_of(standard: u8) -> Mode
     }
 }
 
-#[unsafe(no_mangle)]
-pub extern "C" fn sinotayam_read(
+pub fn sinotayam_read(
     book: &[u8],
     root: u16,
     message: &[u8],
@@ -59,8 +58,7 @@ pub extern "C" fn sinotayam_read(
 }
 
 // What is wrong with a book: record * 256 + number, and 0 for a right one.
-#[unsafe(no_mangle)]
-pub extern "C" fn sinotayam_fault(book: &[u8]) -> u32
+pub fn sinotayam_fault(book: &[u8]) -> u32
     ensures { result ≡ fault_word (fault_of book.now) }
 {
     match fault(book) {
@@ -70,22 +68,19 @@ pub extern "C" fn sinotayam_fault(book: &[u8]) -> u32
 }
 
 // The type check: 0, 17 to 23, 9 or 16. The last number: 0 for a type that is used with any encoding, anything else for one that is used with XCDR2 only.
-#[unsafe(no_mangle)]
-pub extern "C" fn sinotayam_check(book: &[u8], root: u16, only_xcdr2: u8) -> u8
+pub fn sinotayam_check(book: &[u8], root: u16, only_xcdr2: u8) -> u8
     ensures { result ≡ check_of book.now root (not (eqb only_xcdr2 0)) }
 {
     fit::check(book, root as usize, !(only_xcdr2 == 0))
 }
 
-#[unsafe(no_mangle)]
-pub extern "C" fn sinotayam_prepare(book: &[u8], index: &mut [u32]) -> u8
+pub fn sinotayam_prepare(book: &[u8], index: &mut [u32]) -> u8
     ensures { (result ≡ prepare_of book.now index.old) × (index.new ≡ prepared_from book.now index.old) }
 {
     prepare(book, index).code()
 }
 
-#[unsafe(no_mangle)]
-pub extern "C" fn sinotayam_read_prepared(
+pub fn sinotayam_read_prepared(
     book: &[u8],
     index: &[u32],
     root: u16,
@@ -104,8 +99,7 @@ pub extern "C" fn sinotayam_read_prepared(
     pack(a)
 }
 
-#[unsafe(no_mangle)]
-pub extern "C" fn sinotayam_text(table: &[u64], row: usize, s: &[u8]) -> u8
+pub fn sinotayam_text(table: &[u64], row: usize, s: &[u8]) -> u8
     ensures { result ≡ text_number table.now row s.now }
 {
     text_status(table, row, s).code()
