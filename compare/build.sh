@@ -1,14 +1,15 @@
 # The building steps that compare/run, compare/sample, compare/mutants and bench/run share. Sourced, with `me` the name of the folder that asks (compare).
 # In the environment:
 #   XTYPES       the crate's folder src/xtypes; ../shared/docs/src/src/xtypes from the repository's root if it is not set
-# They need rustc, and for the port the Rattle toolchain and, on x86-64, cc. Nothing is fetched. What is built is in target/compare, or target/bench.
+# They need rustc, and for the port the Rattle toolchain, which runs on x86-64, and cc. Nothing is fetched. What is built is in target/compare, or target/bench.
 me=${me:-compare}
 beside=$(cd "$(dirname "${BASH_SOURCE[0]}")" && pwd -P)
 root=$(dirname "$beside")
 xtypes=${XTYPES:-$root/../shared/docs/src/src/xtypes}
 [ -f "$xtypes/deserializer.rs" ] || { echo "$me: no deserializer.rs in $xtypes; set XTYPES ($me/run --help)" >&2 && exit 2; }
 out=$root/target/$me
-. "$root/tools/kit.sh"
+m=$(uname -m)
+[ "$m" != x86_64 ] || . "$root/tools/kit.sh"
 mkdir -p "$out"
 
 # The crate's files as they are, but for the closing validation call, which document 01 leaves out, and two stand-ins beside them.
@@ -25,33 +26,36 @@ crate_text() { # DIR
     fi
 }
 
-# The archive of the C interface, as target/staticlib/libsinotayam.a: rt proves it first.
+# The archive of the C interface, as target/compare/lib/libsinotayam.a (or target/bench/lib): rt proves it first.
 archive() { # LOG
-    (cd "$root" && rt staticlib sinotayam) >"$1" 2>&1 || { tail -n 20 "$1"; exit 1; }
+    "$root/tools/archive" x86-64 --out "$out/lib" >"$1" 2>&1 || { tail -n 20 "$1"; exit 1; }
 }
 
-# The same functions as REPO/port.o, from code that nothing proves: of a program that calls one, its module is kept.
-object() { # REPO LOG
+# The same functions as REPO/port.o, from code that nothing proves: of a program that calls them, the module is kept when rt tries it.
+object() { # REPO
     repo=$1
     rm -rf "$repo"
+    mkdir -p "$repo"
+    tar -C "$root" -c --exclude=out crates crates.txt | tar -C "$repo" -x
     mkdir -p "$repo/crates/feed/src"
-    cp -r "$root"/crates/* "$repo/crates/"
-    cp "$root/crates.txt" "$repo/"
     echo 'feed: sinotayam' >>"$repo/crates.txt"
     cat >"$repo/crates/feed/src/main.rt" <<'END'
 fn main(rt: HostRuntime) {
     let mut table = [0u64; 4];
+    let mut index = [0u32; 4];
     let mut position = 0u64;
     let mut need = 0u64;
-    let _ = rt.print(sinotayam::c::sinotayam_read(b"", 0, b"", 0, &mut table, &mut position, &mut need));
+    let _ = sinotayam::c::sinotayam_fault(b"");
+    let _ = sinotayam::c::sinotayam_prepare(b"", &mut index);
+    let _ = sinotayam::c::sinotayam_read(b"", 0, b"", 0, &mut table, &mut position, &mut need);
+    let _ = sinotayam::c::sinotayam_read_prepared(b"", &index, 0, b"", 0, &mut table, &mut position, &mut need);
 }
 END
-    printf 17 >"$repo/crates/feed/stdout"
-    kit_that_keeps_modules "$repo/kit"
-    (cd "$repo" && RATTLE_HOME=$repo/kit rt try feed) >"$2" 2>&1 || { tail -n 20 "$2"; exit 1; }
-    module_text "$repo/kit/module-O3.bc" "$repo/m.ll"
-    sed -e '/^define internal .*@"sinotayam::c::sinotayam_/s/^define internal/define/' -e 's/@"sinotayam::c::sinotayam_\([a-z_]*\)"/@unproved_\1/g' -e 's/@main(/@rattle_main(/' "$repo/m.ll" >"$repo/n.ll"
-    "$tools/bin/clang" --target=$x86 -march=x86-64 -O3 -fPIC -mllvm -trap-unreachable -mllvm -no-trap-after-noreturn -x ir -c "$repo/n.ll" -o "$repo/port.o"
+    unproved_module "$repo/crates/feed" "$repo/kit"
+    module_text "$repo/kit/module.bc" "$repo/m.ll"
+    # the four functions under their C names, which their parameters fit already, and the program's own main under another
+    sed -e '/^define internal .*@"sinotayam::c::sinotayam_/s/^define internal/define/' -e 's/@"sinotayam::c::\(sinotayam_[a-z_]*\)"/@\1/g' -e 's/@main(/@rattle_main(/' "$repo/m.ll" >"$repo/n.ll"
+    module_object "$repo/n.ll" "$repo/port.o"
 }
 
 # The comparison's program around the crate's text.
@@ -68,26 +72,17 @@ compile() { # DIR PROGRAM WORDS
 
 # The port's program, and in `port` the words that run it.
 build_port() { # --unproved, or nothing
+    [ "$m" = x86_64 ] || { echo "$me: the toolchain runs on x86-64, and this machine is $m" >&2 && exit 2; }
     if [ "${1:-}" = --unproved ]; then
-        object "$out/unproved" "$out/rt.log"
-        link "$out/unproved/port.o" -DUNPROVED
+        object "$out/unproved"
+        link "$out/unproved/port.o"
     else
         archive "$out/rt.log"
-        link "$root/target/staticlib/libsinotayam.a"
+        link "$out/lib/libsinotayam.a"
     fi
 }
 
-# Where the machine is no x86-64, the port's program is linked with the kit's own tools and run on the kit's emulator.
-link() { # ARCHIVE WORDS
-    lib=$1
-    shift
-    if [ "$m" = x86_64 ]; then
-        cc -O2 -fno-builtin "$@" "$beside/port.c" "$lib" -o "$out/port"
-        port=("$out/port")
-        return
-    fi
-    "$tools/bin/clang" --target=$x86 -O2 -fPIE -fno-builtin "$@" -c "$beside/port.c" -o "$out/port.o"
-    "$kit/on/$m/bin/rattle-link" --target $x86 --toolchain "$tools" -o "$out/port" "$out/port.o" "$lib" >"$out/link.log" 2>&1 || { cat "$out/link.log"; exit 1; }
-    words_for "$out/port"
-    port=("${run[@]}")
+link() { # ARCHIVE
+    cc -O2 -fno-builtin "$beside/port.c" "$1" -o "$out/port"
+    port=("$out/port")
 }

@@ -1,5 +1,5 @@
-// The port's side: reads cases from standard input, hands each to the C interface, writes the answers. No header is included, so that
-// the kit's own clang compiles it where the machine has no other one for x86-64.
+// The port's side: reads cases from standard input, hands each to the C interface, writes the answers. No header is included: the functions are
+// those of the archive, or under the same names those of an object that nothing proved (compare/build.sh).
 //   in   1, length u32, book           the book of the messages that follow
 //        2, root u16, standard u8, words u32, length u32, message
 //   out  for each message: answer u64 (rows * 256 + number), what is told (position u64, need u64), marks u8, the book's fault u32 (record * 256 + number),
@@ -16,39 +16,10 @@ long read(int, void *, u64);
 long write(int, const void *, u64);
 void exit(int);
 
-#ifdef UNPROVED
-// Functions of an object that nothing proved: there a slice is the address of a pair.
-struct slice { const void *at; u64 length; };
-u64 unproved_read(struct slice *, u16, struct slice *, u8, struct slice *, u64 *, u64 *);
-u32 unproved_fault(struct slice *);
-u8 unproved_prepare(struct slice *, struct slice *);
-u64 unproved_read_prepared(struct slice *, struct slice *, u16, struct slice *, u8, struct slice *, u64 *, u64 *);
-static u64 sinotayam_read(const u8 *b, u64 bl, u16 root, const u8 *m, u64 ml, u8 standard, u64 *t, u64 tl, u64 *position, u64 *need)
-{
-    struct slice x = { b, bl }, y = { m, ml }, z = { t, tl };
-    return unproved_read(&x, root, &y, standard, &z, position, need);
-}
-static u32 sinotayam_fault(const u8 *b, u64 bl)
-{
-    struct slice x = { b, bl };
-    return unproved_fault(&x);
-}
-static u8 sinotayam_prepare(const u8 *b, u64 bl, u32 *i, u64 il)
-{
-    struct slice x = { b, bl }, y = { i, il };
-    return unproved_prepare(&x, &y);
-}
-static u64 sinotayam_read_prepared(const u8 *b, u64 bl, const u32 *i, u64 il, u16 root, const u8 *m, u64 ml, u8 standard, u64 *t, u64 tl, u64 *position, u64 *need)
-{
-    struct slice x = { b, bl }, i2 = { i, il }, y = { m, ml }, z = { t, tl };
-    return unproved_read_prepared(&x, &i2, root, &y, standard, &z, position, need);
-}
-#else
 u64 sinotayam_read(const u8 *, u64, u16, const u8 *, u64, u8, u64 *, u64, u64 *, u64 *);
 u32 sinotayam_fault(const u8 *, u64);
 u8 sinotayam_prepare(const u8 *, u64, u32 *, u64);
 u64 sinotayam_read_prepared(const u8 *, u64, const u32 *, u64, u16, const u8 *, u64, u8, u64 *, u64, u64 *, u64 *);
-#endif
 
 #define ROW 5
 #define WORDS (1 << 20)

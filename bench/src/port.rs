@@ -1,6 +1,5 @@
 // The C interface of the port: include/sinotayam.h.
 
-#[cfg(not(unproved))]
 mod c {
     extern "C" {
         pub fn sinotayam_read(book: *const u8, bl: usize, root: u16, message: *const u8, ml: usize, standard: u8, table: *mut u64, words: usize, position: *mut u64, need: *mut u64) -> u64;
@@ -19,44 +18,6 @@ mod c {
             position: *mut u64,
             need: *mut u64,
         ) -> u64;
-    }
-}
-
-/// Functions of an object that nothing proved: there a slice is the address of a pair.
-#[cfg(unproved)]
-mod c {
-    #[repr(C)]
-    pub struct Slice(*const u8, usize);
-
-    extern "C" {
-        fn unproved_read(book: *const Slice, root: u16, message: *const Slice, standard: u8, table: *const Slice, position: *mut u64, need: *mut u64) -> u64;
-        fn unproved_prepare(book: *const Slice, index: *const Slice) -> u8;
-        fn unproved_read_prepared(book: *const Slice, index: *const Slice, root: u16, message: *const Slice, standard: u8, table: *const Slice, position: *mut u64, need: *mut u64) -> u64;
-    }
-
-    pub unsafe fn sinotayam_read(b: *const u8, bl: usize, root: u16, m: *const u8, ml: usize, standard: u8, t: *mut u64, tl: usize, position: *mut u64, need: *mut u64) -> u64 {
-        unproved_read(&Slice(b, bl), root, &Slice(m, ml), standard, &Slice(t as _, tl), position, need)
-    }
-
-    pub unsafe fn sinotayam_prepare(b: *const u8, bl: usize, i: *mut u32, il: usize) -> u8 {
-        unproved_prepare(&Slice(b, bl), &Slice(i as _, il))
-    }
-
-    pub unsafe fn sinotayam_read_prepared(
-        b: *const u8,
-        bl: usize,
-        i: *const u32,
-        il: usize,
-        root: u16,
-        m: *const u8,
-        ml: usize,
-        standard: u8,
-        t: *mut u64,
-        tl: usize,
-        position: *mut u64,
-        need: *mut u64,
-    ) -> u64 {
-        unproved_read_prepared(&Slice(b, bl), &Slice(i as _, il), root, &Slice(m, ml), standard, &Slice(t as _, tl), position, need)
     }
 }
 
