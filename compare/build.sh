@@ -31,11 +31,12 @@ archive() { # LOG
     "$root/tools/archive" x86-64 --out "$out/lib" >"$1" 2>&1 || { tail -n 20 "$1"; exit 1; }
 }
 
-# The same functions as REPO/port.o, from code that nothing proves: of a program that calls them, the module is kept when rt tries it.
-object() { # REPO
-    repo=$1
-    rm -rf "$repo"
-    mkdir -p "$repo"
+# The same functions as DIR/port.o, from code that nothing proves: of a program that calls them, the module is kept when rt tries it. The copy of the crates is no
+# part of the repository: rt ci refuses it there.
+object() { # DIR
+    rm -rf "$1"
+    mkdir -p "$1"
+    repo=$(mktemp -d)
     tar -C "$root" -c --exclude=out crates crates.txt | tar -C "$repo" -x
     mkdir -p "$repo/crates/feed/src"
     echo 'feed: sinotayam' >>"$repo/crates.txt"
@@ -51,11 +52,12 @@ fn main(rt: HostRuntime) {
     let _ = sinotayam::c::sinotayam_read_prepared(b"", &index, 0, b"", 0, &mut table, &mut position, &mut need);
 }
 END
-    unproved_module "$repo/crates/feed" "$repo/kit"
-    module_text "$repo/kit/module.bc" "$repo/m.ll"
+    unproved_module "$repo/crates/feed" "$1/port.bc"
+    rm -rf "$repo"
+    module_text "$1/port.bc" "$1/m.ll"
     # the four functions under their C names, which their parameters fit already, and the program's own main under another
-    sed -e '/^define internal .*@"sinotayam::c::sinotayam_/s/^define internal/define/' -e 's/@"sinotayam::c::\(sinotayam_[a-z_]*\)"/@\1/g' -e 's/@main(/@rattle_main(/' "$repo/m.ll" >"$repo/n.ll"
-    module_object "$repo/n.ll" "$repo/port.o"
+    sed -e '/^define internal .*@"sinotayam::c::sinotayam_/s/^define internal/define/' -e 's/@"sinotayam::c::\(sinotayam_[a-z_]*\)"/@\1/g' -e 's/@main(/@rattle_main(/' "$1/m.ll" >"$1/n.ll"
+    module_object "$1/n.ll" "$1/port.o"
 }
 
 # The comparison's program around the crate's text.

@@ -22,11 +22,14 @@ END
     chmod +x "$1/toolchain/bin/clang"
 }
 
-# The module of a program's code as it stands, as DIR/module.bc: rt tries the program, here on an input of nothing.
-unproved_module() { # FOLDER DIR
-    rm -rf "$2"
-    kit_that_keeps_modules "$2"
-    (cd "$1" && "$2/bin/rt" try </dev/null) >"$2/try.log" 2>&1 && [ -s "$2/module.bc" ] || { tail -n 20 "$2/try.log" >&2 && exit 1; }
+# The module of a program's code as it stands: rt tries the program, here on an input of nothing. The view is no part of the repository: rt ci refuses links there.
+unproved_module() { # FOLDER MODULE.bc
+    local view
+    view=$(mktemp -d)
+    kit_that_keeps_modules "$view"
+    rm -f "$2"
+    (cd "$1" && "$view/bin/rt" try </dev/null) >"$2.log" 2>&1 && mv "$view/module.bc" "$2" || { tail -n 20 "$2.log" >&2 && rm -rf "$view" && exit 1; }
+    rm -rf "$view"
 }
 
 # A module as text.

@@ -9,8 +9,8 @@ is_fresh() { # FILE
 build_unproved() { # NAME
     local work=$root/target/unproved/$1
     mkdir -p "$work" "$root/target/unproved/bin"
-    unproved_module "$root/crates/$1" "$work/kit"
-    module_object "$work/kit/module.bc" "$work/$1.o"
+    unproved_module "$root/crates/$1" "$work/$1.bc"
+    module_object "$work/$1.bc" "$work/$1.o"
     "$kit/bin/rattle-link" --target $x86 --toolchain "$tools" -o "$root/target/unproved/bin/$1" "$work/$1.o" "$kit"/c/lib*_c.a >"$work/link.log" 2>&1 || { cat "$work/link.log" >&2 && exit 1; }
 }
 
