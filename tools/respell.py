@@ -72,10 +72,7 @@ def turn(text, names, bare):
         core = w.rstrip("'")
         return names[core] + w[len(core):] if core in names and core != w else w
 
-    def dotted(m):
-        return word(m)
-
-    return re.sub(WORD if bare else r"[\w'-]+", dotted, text)
+    return re.sub(WORD if bare else r"[\w'-]+", word, text)
 
 
 def libraries(text):

@@ -24,7 +24,7 @@ use Rattle.lookup.specs.Search.{past_value, seek_by}
 use Rattle.lookup.specs.Xcdr1 as xcdr1
 use Rattle.lookup.specs.Xcdr2 as xcdr2
 use Rattle.lookup.specs.Member.{asked_for, located_v1, located_v2, looked_up, locate}
-use Rattle.lookup.specs.Code.Ahead.{search_by, Leads, HeaderId, NextIs, ahead_of, AheadAt, AheadIs, value_at, HeadAt, HeadOrEnd, LongHead, PassedTo, PassedOver}
+use Rattle.lookup.specs.Code.Ahead.{search_by, Leads, HeaderId, NextIs, ahead_of, AheadAt, AheadIs, value_at, HeadAt, HeadOrEnd, LongHead, PassedTo, PassedNear}
 use Rattle.lookup.specs.declared.search.Seek.{Seek}
 use Rattle.lookup.specs.declared.search.Seek.TheVariants.{Found, PidNotFound, Short}
 use Rattle.lookup.specs.declared.search.Turn.{Turn}
@@ -124,18 +124,13 @@ module _ (s : List ℕ) (pos n origin : ℕ) where
           let a : seek_to s (cursor_at pos origin) n ≡ place.Short (short_at s (cursor_at pos origin) n) = sym (seek_short s (cursor_at pos origin) n (leb-false _ _ l)) in
           done_on (Short (short_at s (cursor_at pos origin) n)) y (rw a at q)
 
-  pub over_end : (p : ℕ) → p ≡ (4 - (pos + n - origin) % 4) % 4 → length s < pos + n + p → PassedOver s (cursor_at pos origin) n (length s)
-  unfolding PassedOver
-  over_end p e h = (record { inside = omega arith; head = λ k. absurd (omega arith) }, λ k. absurd (omega arith), λ k set y q. absurd (not_passed set p e h y q), λ k. k)
+  pub near_where_cut : (p : ℕ) → p ≡ (4 - (pos + n - origin) % 4) % 4 → length s < pos + n + p → PassedNear s (cursor_at pos origin) n (length s)
+  unfolding PassedNear
+  near_where_cut p e h = (λ k set y q. absurd (not_passed set p e h y q), λ k. k)
 
-  pub over_to : (p : ℕ) → p ≡ (4 - (pos + n - origin) % 4) % 4 → origin ≤ pos → pos + n + p ≤ length s → PassedOver s (cursor_at pos origin) n (pos + n + p)
-  unfolding PassedOver
-  over_to p e o h = (
-    record { inside = h; head = λ k. record { after = omega arith; aligned = omega arith; inside = k } },
-    λ k set. passed_on set p e h,
-    λ k set y q. near k (on_same _ y (sym (passed_on set p e h) ∙ q)),
-    λ k. omega arith,
-  )
+  pub near_where_passed : (p : ℕ) → p ≡ (4 - (pos + n - origin) % 4) % 4 → pos + n + p ≤ length s → PassedNear s (cursor_at pos origin) n (pos + n + p)
+  unfolding PassedNear
+  near_where_passed p e h = (λ k set y q. near k (on_same _ y (sym (passed_on set p e h) ∙ q)), λ k. omega arith)
     where
       near : length s < pos + n + p + 4 → {y : Cursor} → cursor_at (pos + n + p) origin ≡ y → length s < y.pos + 4
       near k {y} f = let g = ap (λ (z : Cursor). z.pos) f in omega (arith, k, g)

@@ -24,7 +24,7 @@ use Rattle.lookup.specs.Search.{ran_short, past_value}
 use Rattle.lookup.specs.Xcdr1 as xcdr1
 use Rattle.lookup.specs.Xcdr2 as xcdr2
 use Rattle.lookup.specs.Member.{located_v1, located_v2, looked_up, locate}
-use Rattle.lookup.specs.Code.Ahead.{search_by, AheadIs, AheadAt, value_at, HeadAt, HeadOrEnd, LongHead, PassedOver}
+use Rattle.lookup.specs.Code.Ahead.{search_by, AheadIs, AheadAt, value_at, HeadAt, HeadOrEnd, LongHead, PassedTo, PassedNear}
 use Rattle.lookup.specs.Code.Straight.{located_by, Gone, LeadsTo, Past, Stepped, SoughtIs}
 use Rattle.lookup.specs.declared.search.Seek.{Seek}
 use Rattle.lookup.specs.declared.search.Seek.TheVariants.{Found, PidNotFound, Short}
@@ -115,9 +115,9 @@ module _ (s : List ℕ) (set : Settings) where
       record { place = b.place; same = λ k. a.same h ∙ b.same k; gone = λ k. gone_from id at (cursor_at q at.origin) (a.same h) (b.gone k) }
 
   -- past a header whose value is passed over
-  leads_past : (id : ℕ) (at y : Cursor) (n q : ℕ) → y.origin ≡ at.origin → turn_by s set set.version id at ≡ past_value s set y n → PassedOver s y n q → LeadsTo s set id at q
-  unfolding PassedOver
-  leads_past id at y n q kept turn p =
+  leads_past : (id : ℕ) (at y : Cursor) (n q : ℕ) → y.origin ≡ at.origin → turn_by s set set.version id at ≡ past_value s set y n → PassedTo s y n q → PassedNear s y n q → LeadsTo s set id at q
+  unfolding PassedTo PassedNear
+  leads_past id at y n q kept turn p m =
       record {
         place = rw kept at p.0;
         same = λ k. on_to id at (cursor_at q at.origin) (turn ∙ p.1 k set ∙ ap (λ (o : ℕ). On (cursor_at q o)) kept);
@@ -131,25 +131,25 @@ module _ (s : List ℕ) (set : Settings) where
 
       go : length s < q + 4 → (t : Turn) → past_value s set y n ≡ t → Gone s set id at
       go k (Done f) e = gone_turn id at f (turn ∙ e) (settled f e)
-      go k (On z) e = gone_from id at z (on_to id at z (turn ∙ e)) (near_end set.version refl id z (p.2 k set z e))
+      go k (On z) e = gone_from id at z (on_to id at z (turn ∙ e)) (near_end set.version refl id z (m.0 k set z e))
 
 -- past an XCDR2 header
 module _ (s : List ℕ) (set : Settings) (pos origin : ℕ) (head : HeadAt s pos origin) (version : set.version ≡ Xcdr2) (v : ℕ) (is : v ≡ number_at set.order 0 s pos 4) where
-  past2 : (n : ℕ) (y : Cursor) → xcdr2.length_of s set v (cursor_at (pos + 4) origin) ≡ number.Got n y → y.origin ≡ origin → pos + 4 ≤ y.pos → y.pos ≤ length s → (q : ℕ) → PassedOver s y n q → Past s set (xcdr2.id_of v) pos origin q
-  unfolding Past PassedOver xcdr2.verdict
-  past2 n y told kept after inside q p = (
-    (let k = p.3 inside in omega (arith, k, after)),
-    λ id other. leads_past s set id (cursor_at pos origin) y n q kept (judged2 s set pos origin head version v is n y told id ∙ (rw (ne_eqb (xcdr2.id_of v) id other))) p,
+  past2 : (n : ℕ) (y : Cursor) → xcdr2.length_of s set v (cursor_at (pos + 4) origin) ≡ number.Got n y → y.origin ≡ origin → pos + 4 ≤ y.pos → y.pos ≤ length s → (q : ℕ) → PassedTo s y n q → PassedNear s y n q → Past s set (xcdr2.id_of v) pos origin q
+  unfolding Past PassedNear xcdr2.verdict
+  past2 n y told kept after inside q p m = (
+    (let k = m.1 inside in omega (arith, k, after)),
+    λ id other. leads_past s set id (cursor_at pos origin) y n q kept (judged2 s set pos origin head version v is n y told id ∙ (rw (ne_eqb (xcdr2.id_of v) id other))) p m,
   )
 
-  pub past_fixed : (lc n q : ℕ) → lc ≡ xcdr2.lc_of v → lc < 4 → n ≡ xcdr2.fixed_length lc → PassedOver s (cursor_at (pos + 4) origin) n q → Past s set (xcdr2.id_of v) pos origin q
+  pub past_fixed : (lc n q : ℕ) → lc ≡ xcdr2.lc_of v → lc < 4 → n ≡ xcdr2.fixed_length lc → PassedTo s (cursor_at (pos + 4) origin) n q → PassedNear s (cursor_at (pos + 4) origin) n q → Past s set (xcdr2.id_of v) pos origin q
   unfolding xcdr2.length_of xcdr2.length_by_lc
-  past_fixed lc n q c l e p = past2 n (cursor_at (pos + 4) origin) (rw (← c, lt-ltb _ _ l, ← e)) refl (omega arith) head.inside q p
+  past_fixed lc n q c l e p near = past2 n (cursor_at (pos + 4) origin) (rw (← c, lt-ltb _ _ l, ← e)) refl (omega arith) head.inside q p near
 
 module _ (s : List ℕ) (set : Settings) (v pos origin : ℕ) (long : LongHead s set v pos origin) where
-  pub past_long : 8 ≤ length s - pos → (m u lc q : ℕ) → m ≡ number_at set.order 0 s (pos + 4) 4 → lc ≡ xcdr2.lc_of v → u ≡ xcdr2.unit_of lc → PassedOver s (cursor_at (pos + 4 + 4) origin) (m * u) q → Past s set (xcdr2.id_of v) pos origin q
-  past_long there m u lc q e code unit p =
-      past2 s set pos origin long.head long.version v long.is (m * u) (cursor_at (pos + 4 + 4) origin) (told_long s set v pos origin long there m u e lc code unit) refl (omega arith) (omega (arith, there)) q p
+  pub past_long : 8 ≤ length s - pos → (m u lc q : ℕ) → m ≡ number_at set.order 0 s (pos + 4) 4 → lc ≡ xcdr2.lc_of v → u ≡ xcdr2.unit_of lc → PassedTo s (cursor_at (pos + 4 + 4) origin) (m * u) q → PassedNear s (cursor_at (pos + 4 + 4) origin) (m * u) q → Past s set (xcdr2.id_of v) pos origin q
+  past_long there m u lc q e code unit p near =
+      past2 s set pos origin long.head long.version v long.is (m * u) (cursor_at (pos + 4 + 4) origin) (told_long s set v pos origin long there m u e lc code unit) refl (omega arith) (omega (arith, there)) q p near
 
   no_nextint : (id : ℕ) (x : Shortage) → read_number s set (cursor_at (pos + 4) origin) 4 ≡ number.Short x → xcdr2.turn_at s set id (cursor_at pos origin) ≡ Done (Short x)
   unfolding xcdr2.turn_at xcdr2.length_of xcdr2.length_by_lc xcdr2.nextint_times after_number
@@ -222,10 +222,10 @@ module _ (s : List ℕ) (set : Settings) (id pos origin : ℕ) (head : HeadAt s 
             (gone_turn s set id (cursor_at pos origin) (Found 0 (cursor_at (pos + 4) origin)) (matched1 f e ∙ ap (λ (m : ℕ). Done (Found m (cursor_at (pos + 4) origin))) z)
             (λ back. gone_empty back set.version (cursor_at (pos + 4) origin) version))
 
-    pub past1 : (q : ℕ) → (i ≡ id % 65536 → ⊥) → (eqb i 0x3F02 && eqb n 0) ≡ false → PassedOver s (cursor_at (pos + 4) origin) n q → Stepped s set id pos origin q
-    unfolding Stepped PassedOver
-    past1 q other e p =
-        (let k = p.3 head.inside in omega (arith, k), leads_past s set id (cursor_at pos origin) (cursor_at (pos + 4) origin) n q refl (missed1 e other) p)
+    pub past1 : (q : ℕ) → (i ≡ id % 65536 → ⊥) → (eqb i 0x3F02 && eqb n 0) ≡ false → PassedTo s (cursor_at (pos + 4) origin) n q → PassedNear s (cursor_at (pos + 4) origin) n q → Stepped s set id pos origin q
+    unfolding Stepped PassedNear
+    past1 q other e p m =
+        (let k = m.1 head.inside in omega (arith, k), leads_past s set id (cursor_at pos origin) (cursor_at (pos + 4) origin) n q refl (missed1 e other) p m)
 
 -- the loop goes on, and further
 module _ (s : List ℕ) (set : Settings) (id pos origin q : ℕ) (step : Stepped s set id pos origin q) where

@@ -2,7 +2,7 @@
 // where it is the wanted one, no search from the structure's start is needed. Whoever is told 0 searches as ever, so this stays narrow.
 ghost use Rattle.std.specs.Prelude.{◌≡◌, ◌≤◌, ◌<◌, ◌^◌, length};
 ghost use Rattle.wire.specs.Place.{cursor_at};
-ghost use Rattle.lookup.specs.Code.Ahead.{ahead_of, AheadIs, HeaderAhead, StartIs, TrueHint, hint_at, hint_after, value_at, HeadAt, HeadOrEnd, LongHead, PassedTo, PassedOver};
+ghost use Rattle.lookup.specs.Code.Ahead.{ahead_of, AheadIs, HeaderAhead, StartIs, TrueHint, hint_at, hint_after, value_at, HeadAt, HeadOrEnd, LongHead, PassedTo, PassedNear};
 ghost use Rattle.lookup.specs.Xcdr1.{seek_to_sentinel};
 ghost use Rattle.lookup.specs.Xcdr2.{id_of};
 
@@ -42,7 +42,7 @@ pub fn no_header() -> Ahead
 pub fn next_header(s: &[u8], at: usize, size: u64, origin: usize) -> usize
     requires { (origin ≤ at) × (at ≤ length s.now) × (size ≤ 2 ^ 35) }
     ensures to { PassedTo s.now (cursor_at at origin) size result }
-    ensures over { PassedOver s.now (cursor_at at origin) size result }
+    ensures near { PassedNear s.now (cursor_at at origin) size result }
 {
     let end = s.len();
     let to = at + (size as usize);

@@ -81,11 +81,9 @@ pub record LongHead (s : List ℕ) (set : Settings) (emheader pos origin : ℕ) 
 unfoldable pub PassedTo : List ℕ → Cursor → ℕ → ℕ → Type 0
 PassedTo s c n q = HeadOrEnd s q c.origin × (q + 4 ≤ length s → (set : Settings) → past_value s set c n ≡ On (cursor_at q c.origin))
 
--- .. and if no header stands there, whatever it is passed over to is so near the end of the data too; and the place is not before the value's
-unfoldable pub PassedOver : List ℕ → Cursor → ℕ → ℕ → Type 0
-PassedOver s c n q =
-    HeadOrEnd s q c.origin × (q + 4 ≤ length s → (set : Settings) → past_value s set c n ≡ On (cursor_at q c.origin))
-    × (length s < q + 4 → (set : Settings) (y : Cursor) → past_value s set c n ≡ On y → length s < y.pos + 4) × (c.pos ≤ length s → c.pos ≤ q)
+-- .. and if none does, whatever the value is passed over to is so near the end of the data too; the place is not before the value's
+unfoldable pub PassedNear : List ℕ → Cursor → ℕ → ℕ → Type 0
+PassedNear s c n q = (length s < q + 4 → (set : Settings) (y : Cursor) → past_value s set c n ≡ On y → length s < y.pos + 4) × (c.pos ≤ length s → c.pos ≤ q)
 
 -- a hint is true: for the ids from its `least` on a search from the structure's start is one from where it says, if a header stands there
 pub record TrueHint (s : List ℕ) (set : Settings) (back : Cursor) (origin : ℕ) (h : Hint) : Type 0 where

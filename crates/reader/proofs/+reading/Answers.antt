@@ -397,29 +397,8 @@ value::value-returns-then-past-gt0 t c = search (rules, value_laws)
 pub value::value-returns : goal.value::value-returns
 value::value-returns t c = search (rules, value_laws)
 
-pub member::mmember-id-wanted-requires : goal.member::mmember-id-wanted-requires
-member::mmember-id-wanted-requires t c = search (rules, mmember_laws)
-
-pub member::mmember-look_up-sought-requires : goal.member::mmember-look_up-sought-requires
-member::mmember-look_up-sought-requires t c = search (rules, mmember_laws)
-
-pub member::mmember-value_at-d-requires : goal.member::mmember-value_at-d-requires
-member::mmember-value_at-d-requires t c = search (rules, mmember_laws)
-
 pub member::mmember-overflow_add-v : goal.member::mmember-overflow_add-v
 member::mmember-overflow_add-v t c = sum_fits _ _ _ (c.look_up-sought.ensures.near c.if-v-gt0.true) c.well_formed.1.1.0.1
-
-pub member::mmember-cut-own-requires : goal.member::mmember-cut-own-requires
-member::mmember-cut-own-requires t c = search (rules, mmember_laws)
-
-pub member::mmember-kind_found-kind-requires : goal.member::mmember-kind_found-kind-requires
-member::mmember-kind_found-kind-requires t c = search (rules, mmember_laws)
-
-pub member::mmember-overflow_cast-wanted : goal.member::mmember-overflow_cast-wanted
-member::mmember-overflow_cast-wanted t c = search (rules, mmember_laws)
-
-pub member::mmember-any_at-past-requires : goal.member::mmember-any_at-past-requires
-member::mmember-any_at-past-requires t c = search (rules, mmember_laws)
 
 pub member::mmember-overflow_add-result : goal.member::mmember-overflow_add-result
 member::mmember-overflow_add-result t c = found_fits _ _ _ _ _ _ _ _ _ _ _ refl c.kind_found-kind.ensures c.id-wanted.ensures _ _ c.any_at-past.ensures.quickly c.any_at-past.ensures.taken c.if-past-gt0.true c.well_formed.1.1.1.1.0.0
@@ -429,9 +408,6 @@ member::mmember-returns-then-past-gt0 t c = mmember_read _ _ _ _ _ _ _ _ _ _ c.i
 
 pub member::mmember-found-requires : goal.member::mmember-found-requires
 member::mmember-found-requires t c = search (rules, mmember_laws)
-
-pub member::mmember-back_to-requires : goal.member::mmember-back_to-requires
-member::mmember-back_to-requires t c = search (rules, mmember_laws)
 
 pub member::mmember-returns-in-Read : goal.member::mmember-returns-in-Read
 member::mmember-returns-in-Read t c = mmember_read _ _ _ _ _ _ _ _ _ _ c.id-wanted.ensures _ (sym (found_at _ _ _ c.value_at-d.ensures (c.look_up-sought.ensures.found c.if-v-gt0.true))) _ _ _ refl _ (own_at _ _ _ _ _ c.value_at-d.ensures c.cut-own.ensures) _ _ (found_left _ _ _ _ _ _ _ _ _ _ _ refl c.kind_found-kind.ensures c.id-wanted.ensures _ _ c.any_at-past.ensures.quickly c.any_at-past.ensures.taken c.if-past-gt0.false _ _ c.found.ensures) _ _ c.in-Read.is
@@ -445,17 +421,8 @@ member::mmember-returns-in-Refused t c = mmember_refused _ _ _ _ _ _ _ _ _ _ c.i
 pub member::mmember-returns-then-sought : goal.member::mmember-returns-then-sought
 member::mmember-returns-then-sought t c = mmember_absent _ _ _ _ _ _ _ _ _ _ c.id-wanted.ensures _ (sym (c.look_up-sought.ensures.absent c.if-sought.true)) _ refl
 
-pub member::mmember-locate-requires : goal.member::mmember-locate-requires
-member::mmember-locate-requires t c = search (rules, mmember_laws)
-
-pub member::mmember-cut-own-requires-in-Found : goal.member::mmember-cut-own-requires-in-Found
-member::mmember-cut-own-requires-in-Found t c = search (rules, mmember_laws)
-
 pub member::mmember-found-requires-in-Found : goal.member::mmember-found-requires-in-Found
 member::mmember-found-requires-in-Found t c = search (rules, mmember_laws)
-
-pub member::mmember-back_to-requires-in-Short-found : goal.member::mmember-back_to-requires-in-Short-found
-member::mmember-back_to-requires-in-Short-found t c = search (rules, mmember_laws)
 
 pub member::mmember-returns-in-Short-locate : goal.member::mmember-returns-in-Short-locate
 member::mmember-returns-in-Short-locate t c = search (rules, mmember_laws)
@@ -472,38 +439,11 @@ member::mmember-returns-in-Short-found t c = mmember_fell _ _ _ _ _ _ _ _ _ _ c.
 pub member::mmember-returns-in-Refused-found : goal.member::mmember-returns-in-Refused-found
 member::mmember-returns-in-Refused-found t c = mmember_refused _ _ _ _ _ _ _ _ _ _ c.id-wanted.ensures _ c.locate.ensures _ _ _ c.in-Found.is _ c.cut-own-in-Found.ensures _ _ c.found-in-Found.ensures _ c.in-Refused-found.is
 
-pub value::elements-place-p-requires : goal.value::elements-place-p-requires
-value::elements-place-p-requires t c = search (rules, elements_laws)
-
-pub value::elements-kind_at-kind-requires : goal.value::elements-kind_at-kind-requires
-value::elements-kind_at-kind-requires t c = search (rules, elements_laws)
-
-pub value::elements-unsupported_element-requires : goal.value::elements-unsupported_element-requires
-value::elements-unsupported_element-requires t c = search (rules, elements_laws)
-
 pub value::elements-returns-then-unsupported_element : goal.value::elements-returns-then-unsupported_element
 value::elements-returns-then-unsupported_element t c = search (rules, elements_laws)
 
-pub value::elements-opens-requires : goal.value::elements-opens-requires
-value::elements-opens-requires t c = search (rules, elements_laws)
-
-pub value::elements-is_full-requires : goal.value::elements-is_full-requires
-value::elements-is_full-requires t c = search (rules, elements_laws)
-
 pub value::elements-returns-then-is_full : goal.value::elements-returns-then-is_full
 value::elements-returns-then-is_full t c = search (rules, elements_laws)
-
-pub value::elements-stored_of-requires : goal.value::elements-stored_of-requires
-value::elements-stored_of-requires t c = search (rules, elements_laws)
-
-pub value::elements-overflow_cast-row : goal.value::elements-overflow_cast-row
-value::elements-overflow_cast-row t c = search (rules, elements_laws)
-
-pub value::elements-stored_of-requires-then-opens : goal.value::elements-stored_of-requires-then-opens
-value::elements-stored_of-requires-then-opens t c = search (rules, elements_laws)
-
-pub value::elements-overflow_cast-row-then-opens : goal.value::elements-overflow_cast-row-then-opens
-value::elements-overflow_cast-row-then-opens t c = search (rules, elements_laws)
 
 pub value::elements-put_row-requires : goal.value::elements-put_row-requires
 value::elements-put_row-requires t c = search (rules, elements_laws)
@@ -522,12 +462,6 @@ value::elements-as_nested-requires t c = search (rules, elements_laws)
 
 pub value::elements-returns-then-opens : goal.value::elements-returns-then-opens
 value::elements-returns-then-opens t c = search (rules, elements_laws)
-
-pub value::elements-read_as-requires : goal.value::elements-read_as-requires
-value::elements-read_as-requires t c = search (rules, elements_laws)
-
-pub value::elements-plain-requires : goal.value::elements-plain-requires
-value::elements-plain-requires t c = search (rules, elements_laws)
 
 pub value::elements-returns : goal.value::elements-returns
 value::elements-returns t c = search (rules, elements_laws)
