@@ -189,15 +189,7 @@ module _ (s : List ℕ) (set : Settings) (id : ℕ) (c : Cursor) (t : List ℕ) 
       let b : place_before 4 start ≡ q = rw e (read_begins q 4) in
       quick_row (scalar_of s set 16 id c (room t n)) t n c.origin (start + v) (row 16 id start (v - 1) q) (rw (k, b)) (omega arith) free u put
 
--- a boolean, a text and a number are taken
-pub taken_boolean : (kind : ℕ) → kind ≡ 1 → is_taken kind ≡ true
-unfolding is_taken
-taken_boolean kind e = rw e
-
-pub taken_text : (kind : ℕ) → kind ≡ 16 → is_taken kind ≡ true
-unfolding is_taken
-taken_text kind e = rw e
-
+-- a number is taken
 pub taken_number : (kind : ℕ) (b : Bool) → b ≡ is_number kind → b ≡ true → is_taken kind ≡ true
 unfolding is_taken
 taken_number kind b is h =

@@ -1,4 +1,6 @@
-use Rattle.values.proofs.Quickly.{is_free, number_so, quick_not, quick_kind, taken_boolean, taken_text, taken_number, none_taken}
+use mathlib.Core.Path.{refl}
+use Rattle.values.specs.Code.Quick.{is_taken}
+use Rattle.values.proofs.Quickly.{is_free, number_so, quick_not, quick_kind, taken_known, taken_number, none_taken}
 use borrow.Author.Rules.{rules}
 use Rattle.values.proofs.quick.any_at.Goals as goal
 
@@ -18,10 +20,12 @@ pub returns-then-is_number : goal.returns-then-is_number
 returns-then-is_number c = record { quickly = search rules; taken = λ h. search (rules, taken_number) }
 
 pub returns-in-1 : goal.returns-in-1
-returns-in-1 c = record { quickly = search (rules, is_free, quick_not, quick_kind); taken = λ h. search (rules, taken_boolean) }
+unfolding is_taken
+returns-in-1 c = record { quickly = search (rules, is_free, quick_not, quick_kind); taken = λ h. taken_known _ 1 c.in-1.is refl }
 
 pub returns-in-16 : goal.returns-in-16
-returns-in-16 c = record { quickly = search (rules, is_free, quick_not, quick_kind); taken = λ h. search (rules, taken_text) }
+unfolding is_taken
+returns-in-16 c = record { quickly = search (rules, is_free, quick_not, quick_kind); taken = λ h. taken_known _ 16 c.in-16.is refl }
 
 pub returns-else-is_number : goal.returns-else-is_number
 returns-else-is_number c = record { quickly = search (rules, is_free, quick_not, quick_kind); taken = λ h. none_taken _ _ (search rules) h }
