@@ -1,6 +1,0 @@
-use Rattle.book.proofs.Answers.{primitive_is}
-use borrow.Author.Rules.{rules}
-use Rattle.book.proofs.asked.primitive_element.Goals as goal
-
-pub returns : goal.returns
-returns c = search (rules, primitive_is)

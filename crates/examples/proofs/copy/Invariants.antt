@@ -1,6 +1,0 @@
--- The loop ends.
-use Rattle.std.proofs.Common.{◌-◌, length}
-use Rattle.examples.proofs.copy.Given as goal
-
-abbrev pub decreases-loop-i : goal.decreases-loop-i
-decreases-loop-i l = length l.s - l.i

@@ -1,6 +1,0 @@
-use Rattle.sinotayam.proofs.Packing.{same_code}
-use borrow.Author.Rules.{rules}
-use Rattle.sinotayam.proofs.c.sinotayam_prepare.Goals as goal
-
-pub returns : goal.returns
-returns c = search (rules, same_code)
