@@ -8,7 +8,7 @@ use borrow.Author.Tests.{eq-eqb, ne_eqb}
 use Rattle.ground.specs.Choice.{among}
 use Rattle.kinds.specs.Kinds.{is_primitive, bitmask_stored}
 use Rattle.book.specs.Types.{BookType, byte, quad, type_of, bounded, type_no}
-use Rattle.book.specs.Places.{from, type_at, types_by, PlaceOf}
+use Rattle.book.specs.Places.{from, type_at}
 use Rattle.book.specs.Asked.{is_sequence, primitive_element, read_as, is_mutable, is_delimited}
 
 pub sequence_is : (t : BookType) (k : ℕ) → k ≡ t.kind → eqb k 25 ≡ is_sequence t
@@ -52,11 +52,7 @@ module _ (b : List ℕ) (at n : ℕ) where
   unfolding type_of
   bound_there e = e
 
--- the element's kind, by the place of its type
-module _ (b index : List ℕ) (t : BookType) (ty q k : ℕ) (element : ty ≡ t.element) (at : PlaceOf b index ty q) (kind : k ≡ (type_at b q).kind) where
-  pub element_kind : k ≡ (type_no (types_by b index) t.element).kind
-  element_kind = kind ∙ ap (λ (x : BookType). x.kind) at.is ∙ ap (λ (n : ℕ). (type_no (types_by b index) n).kind) element
-
-  pub primitive_is : (r : Bool) → r ≡ is_primitive k → r ≡ primitive_element (types_by b index) t
-  unfolding primitive_element
-  primitive_is r e = e ∙ ap is_primitive element_kind
+-- the elements' kind, by the number of their type
+pub primitive_is : (types : List BookType) (t : BookType) (ty k : ℕ) (r : Bool) → ty ≡ t.element → k ≡ (type_no types ty).kind → r ≡ is_primitive k → r ≡ primitive_element types t
+unfolding primitive_element
+primitive_is types t ty k r e f g = g ∙ ap is_primitive (f ∙ ap (λ (n : ℕ). (type_no types n).kind) e)

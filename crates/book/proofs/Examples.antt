@@ -12,9 +12,8 @@ use Rattle.book.specs.Types.{Member, BookType, default, bounded, labels_of, memb
 use Rattle.book.specs.Rules.{size_ok, version_ok, type_count_ok, head_ok, filled, inside_ok, own_size_ok, record_length_ok, kind_ok, extensibility_ok, base_ok, bound_flag_ok, codes_ok, array_bound_ok, bound_ok, bounds_ok, element_ok, member_count_ok, member_kind_ok, some_member_ok, count_ok, own_ok}
 use Rattle.book.specs.Rules.{other_id, id_ok, link_ok, flags_ok, construct_ok, label_count_ok, first_of_union, first_id_ok, first_kind_ok, first_default_ok, first_label_ok, member_ok, members_ok, type_ok, record_ok, records_ok, book_ok}
 use Rattle.book.specs.declared.fault.Reason.TheVariants.{Head, RecordLength, CodeRange, TypeLink, Bound, MemberList, FirstMember}
-use Rattle.book.specs.declared.fault.Fault.{Fault}
-use Rattle.book.specs.declared.fault.Fault.TheVariants.{Nothing, In}
-use Rattle.book.specs.Fault.{reason_number, fault_word, the_head, unless, ◌then◌, head_fault, own_fault, member_fault, members_fault, record_fault, records_fault, fault_of}
+use Rattle.std.specs.Prelude.{Ok}
+use Rattle.book.specs.Fault.{reason_number, Verdict, fault_word, broken, the_head, unless, ◌then◌, head_fault, own_fault, member_fault, members_fault, record_fault, records_fault, fault_of}
 
 -- THE RULES ONE BY ONE, each asked of the whole book, in reading order
 -- a rule of every record, with its number, its bytes and its type
@@ -163,65 +162,65 @@ right =
     ∷ []
 
 data Bad : Type 0 where
-  breaks : ℕ → Fault → List ℕ → Bad
+  breaks : ℕ → Verdict → List ℕ → Bad
 
 -- a rule's number in `rules`, what is told, and a book that breaks that rule
 abbrev bad : List Bad
 bad =
-    breaks 0 (In the_head Head) (set plain 3 22)
-    ∷ breaks 1 (In the_head Head) (set plain 4 2)
-    ∷ breaks 2 (In the_head Head) (book 0 [])
-    ∷ breaks 2 (In the_head Head) (book 65 (types 65))
-    ∷ breaks 3 (In 0 RecordLength) (set plain 8 15)
-    ∷ breaks 3 (In 0 RecordLength) (set (book 1 (take 13 int32)) 8 13)
-    ∷ breaks 3 (In 0 RecordLength) (set longer 8 15)
-    ∷ breaks 3 (In 1 RecordLength) (set example1 34 2)
-    ∷ breaks 3 (In 1 RecordLength) (set example1 43 1)
-    ∷ breaks 4 (In 0 CodeRange) (set plain 9 28)
-    ∷ breaks 5 (In 0 CodeRange) (set plain 10 3)
-    ∷ breaks 6 (In 0 CodeRange) (set plain 11 4)
-    ∷ breaks 6 (In 0 CodeRange) (set enum 11 28)
-    ∷ breaks 7 (In 0 CodeRange) (set plain 12 2)
-    ∷ breaks 8 (In 1 Bound) (set sequence 23 26)
-    ∷ breaks 9 (In 0 Bound) (set plain 16 1)
-    ∷ breaks 10 (In 0 TypeLink) (set plain 18 0xFE)
-    ∷ breaks 10 (In 1 TypeLink) (set sequence 32 1)
-    ∷ breaks 10 (In 1 TypeLink) (set (set sequence 31 0xFF) 32 0xFF)
-    ∷ breaks 10 (In 1 TypeLink) (set (set array 31 0xFF) 32 0xFF)
-    ∷ breaks 11 (In 1 MemberList) (over (a_type 22 0xFF 65 (fields 65)))
-    ∷ breaks 12 (In 1 MemberList) (set example1 23 18)
-    ∷ breaks 13 (In 0 MemberList) (set plain 9 21)
-    ∷ breaks 13 (In 0 MemberList) (set plain 9 23)
-    ∷ breaks 14 (In 1 MemberList) (set two_members 47 7)
-    ∷ breaks 15 (In 1 FirstMember) (set union 38 1)
-    ∷ breaks 16 (In 1 TypeLink) (set example1 40 1)
-    ∷ breaks 16 (In 1 TypeLink) (set (set example1 39 0xFF) 40 0xFF)
-    ∷ breaks 16 (In 1 TypeLink) (set example1 23 21)
-    ∷ breaks 17 (In 1 FirstMember) (set union 9 16)
-    ∷ breaks 18 (In 1 CodeRange) (set example1 41 4)
-    ∷ breaks 19 (In 1 FirstMember) (set union 41 2)
-    ∷ breaks 20 (In 1 CodeRange) (set example1 42 3)
-    ∷ breaks 21 (In 1 MemberList) labels18
-    ∷ breaks 21 (In 1 MemberList) (over (a_type 22 0xFF 1 (a_member 0 0 17)))
-    ∷ breaks 22 (In 1 FirstMember) (set labelled 23 23)
-    ∷ breaks 23 (In the_head Head) longer
+    breaks 0 (broken the_head Head) (set plain 3 22)
+    ∷ breaks 1 (broken the_head Head) (set plain 4 2)
+    ∷ breaks 2 (broken the_head Head) (book 0 [])
+    ∷ breaks 2 (broken the_head Head) (book 65 (types 65))
+    ∷ breaks 3 (broken 0 RecordLength) (set plain 8 15)
+    ∷ breaks 3 (broken 0 RecordLength) (set (book 1 (take 13 int32)) 8 13)
+    ∷ breaks 3 (broken 0 RecordLength) (set longer 8 15)
+    ∷ breaks 3 (broken 1 RecordLength) (set example1 34 2)
+    ∷ breaks 3 (broken 1 RecordLength) (set example1 43 1)
+    ∷ breaks 4 (broken 0 CodeRange) (set plain 9 28)
+    ∷ breaks 5 (broken 0 CodeRange) (set plain 10 3)
+    ∷ breaks 6 (broken 0 CodeRange) (set plain 11 4)
+    ∷ breaks 6 (broken 0 CodeRange) (set enum 11 28)
+    ∷ breaks 7 (broken 0 CodeRange) (set plain 12 2)
+    ∷ breaks 8 (broken 1 Bound) (set sequence 23 26)
+    ∷ breaks 9 (broken 0 Bound) (set plain 16 1)
+    ∷ breaks 10 (broken 0 TypeLink) (set plain 18 0xFE)
+    ∷ breaks 10 (broken 1 TypeLink) (set sequence 32 1)
+    ∷ breaks 10 (broken 1 TypeLink) (set (set sequence 31 0xFF) 32 0xFF)
+    ∷ breaks 10 (broken 1 TypeLink) (set (set array 31 0xFF) 32 0xFF)
+    ∷ breaks 11 (broken 1 MemberList) (over (a_type 22 0xFF 65 (fields 65)))
+    ∷ breaks 12 (broken 1 MemberList) (set example1 23 18)
+    ∷ breaks 13 (broken 0 MemberList) (set plain 9 21)
+    ∷ breaks 13 (broken 0 MemberList) (set plain 9 23)
+    ∷ breaks 14 (broken 1 MemberList) (set two_members 47 7)
+    ∷ breaks 15 (broken 1 FirstMember) (set union 38 1)
+    ∷ breaks 16 (broken 1 TypeLink) (set example1 40 1)
+    ∷ breaks 16 (broken 1 TypeLink) (set (set example1 39 0xFF) 40 0xFF)
+    ∷ breaks 16 (broken 1 TypeLink) (set example1 23 21)
+    ∷ breaks 17 (broken 1 FirstMember) (set union 9 16)
+    ∷ breaks 18 (broken 1 CodeRange) (set example1 41 4)
+    ∷ breaks 19 (broken 1 FirstMember) (set union 41 2)
+    ∷ breaks 20 (broken 1 CodeRange) (set example1 42 3)
+    ∷ breaks 21 (broken 1 MemberList) labels18
+    ∷ breaks 21 (broken 1 MemberList) (over (a_type 22 0xFF 1 (a_member 0 0 17)))
+    ∷ breaks 22 (broken 1 FirstMember) (set labelled 23 23)
+    ∷ breaks 23 (broken the_head Head) longer
     ∷ []
 
 -- a book and what is told of it
 data Tells : Type 0 where
-  tells : Fault → List ℕ → Tells
+  tells : Verdict → List ℕ → Tells
 
 -- "where one field breaks two, the earlier reason". A union's first member has none before it, so its id breaks one rule at most
 abbrev one_field : List Tells
 one_field =
     -- bound flag: 2 of an ARRAY
-    tells (In 1 CodeRange) (set array 26 2)
+    tells (broken 1 CodeRange) (set array 26 2)
     -- a union's first: the type its own record, which is a union
-    ∷ tells (In 1 TypeLink) (set union 40 1)
+    ∷ tells (broken 1 TypeLink) (set union 40 1)
     -- flags 6
-    ∷ tells (In 1 CodeRange) (set union 41 6)
+    ∷ tells (broken 1 CodeRange) (set union 41 6)
     -- 18 labels
-    ∷ tells (In 1 MemberList) (set labels18 23 23)
+    ∷ tells (broken 1 MemberList) (set labels18 23 23)
     ∷ []
 
 -- "The first broken rule in reading order is told, a record's own bytes before its members": of two neighbouring places that break rules of other
@@ -229,71 +228,71 @@ one_field =
 abbrev neighbours : List Tells
 neighbours =
     -- head and a record's length
-    tells (In the_head Head) (set (set plain 4 2) 8 15)
+    tells (broken the_head Head) (set (set plain 4 2) 8 15)
     -- a record's length and its kind
-    ∷ tells (In 0 RecordLength) (set (set plain 8 15) 9 28)
+    ∷ tells (broken 0 RecordLength) (set (set plain 8 15) 9 28)
     -- base and bound flag, of an ARRAY without a bound
-    ∷ tells (In 1 CodeRange) (set (set sequence 23 26) 25 4)
+    ∷ tells (broken 1 CodeRange) (set (set sequence 23 26) 25 4)
     -- bound flag and bound
-    ∷ tells (In 0 CodeRange) (set (set plain 12 2) 16 1)
+    ∷ tells (broken 0 CodeRange) (set (set plain 12 2) 16 1)
     -- bound and element
-    ∷ tells (In 0 Bound) (set (set plain 16 1) 18 0xFE)
+    ∷ tells (broken 0 Bound) (set (set plain 16 1) 18 0xFE)
     -- element and member count
-    ∷ tells (In 0 TypeLink) (set (set plain 18 0xFE) 20 1)
+    ∷ tells (broken 0 TypeLink) (set (set plain 18 0xFE) 20 1)
     -- member count and a member that does not fit
-    ∷ tells (In 0 MemberList) (set plain 20 1)
+    ∷ tells (broken 0 MemberList) (set plain 20 1)
     -- kind and, some places on, a member that does not fit
-    ∷ tells (In 1 CodeRange) (set (set example1 23 28) 34 2)
+    ∷ tells (broken 1 CodeRange) (set (set example1 23 28) 34 2)
     -- a record's own bytes and its members
-    ∷ tells (In 1 CodeRange) (set (set example1 24 3) 40 1)
+    ∷ tells (broken 1 CodeRange) (set (set example1 24 3) 40 1)
     -- a member that does not fit and its id: two of id 7, the second with a label that is not there; a union's first
-    ∷ tells (In 1 RecordLength) (set (set two_members 47 7) 52 1)
-    ∷ tells (In 1 RecordLength) (set (set union 38 1) 43 1)
+    ∷ tells (broken 1 RecordLength) (set (set two_members 47 7) 52 1)
+    ∷ tells (broken 1 RecordLength) (set (set union 38 1) 43 1)
     -- id and type
-    ∷ tells (In 1 MemberList) (set (set two_members 47 7) 49 1)
-    ∷ tells (In 1 FirstMember) (set (set union 38 1) 40 1)
+    ∷ tells (broken 1 MemberList) (set (set two_members 47 7) 49 1)
+    ∷ tells (broken 1 FirstMember) (set (set union 38 1) 40 1)
     -- type and flags
-    ∷ tells (In 1 TypeLink) (set (set example1 40 1) 41 4)
-    ∷ tells (In 1 FirstMember) (set (set union 9 16) 41 4)
+    ∷ tells (broken 1 TypeLink) (set (set example1 40 1) 41 4)
+    ∷ tells (broken 1 FirstMember) (set (set union 9 16) 41 4)
     -- flags and try-construct
-    ∷ tells (In 1 FirstMember) (set (set union 41 2) 42 3)
+    ∷ tells (broken 1 FirstMember) (set (set union 41 2) 42 3)
     -- try-construct and label count
-    ∷ tells (In 1 CodeRange) (set labels18 42 3)
+    ∷ tells (broken 1 CodeRange) (set labels18 42 3)
     -- label count and the next member, which does not fit
-    ∷ tells (In 1 MemberList) (set labels18 34 2)
-    ∷ tells (In 1 FirstMember) (set (set labelled 23 23) 34 2)
+    ∷ tells (broken 1 MemberList) (set labels18 34 2)
+    ∷ tells (broken 1 FirstMember) (set (set labelled 23 23) 34 2)
     -- label count and bytes left in the record
-    ∷ tells (In 1 MemberList) (set labels18 43 17)
+    ∷ tells (broken 1 MemberList) (set labels18 43 17)
     -- a byte left in a record and the next record's length
-    ∷ tells (In 0 RecordLength) (set example1 8 15)
+    ∷ tells (broken 0 RecordLength) (set example1 8 15)
     -- a record and the next
-    ∷ tells (In 0 MemberList) (set (set example1 9 21) 24 3)
+    ∷ tells (broken 0 MemberList) (set (set example1 9 21) 24 3)
     -- the last record and a byte left in the book
-    ∷ tells (In 0 CodeRange) (set longer 9 28)
+    ∷ tells (broken 0 CodeRange) (set longer 9 28)
     ∷ []
 
 -- books that end within the head, and where a record should begin
 abbrev short : List Tells
 short =
-    tells (In the_head Head) []
-    ∷ tells (In the_head Head) (0 ∷ 0 ∷ 0 ∷ [])
-    ∷ tells (In the_head Head) (0 ∷ 0 ∷ 0 ∷ 4 ∷ [])
-    ∷ tells (In the_head Head) (0 ∷ 0 ∷ 0 ∷ 6 ∷ 1 ∷ 0 ∷ [])
-    ∷ tells (In 0 RecordLength) (book 1 [])
-    ∷ tells (In 0 RecordLength) (book 1 (14 ∷ []))
-    ∷ tells (In 1 RecordLength) (book 2 int32)
+    tells (broken the_head Head) []
+    ∷ tells (broken the_head Head) (0 ∷ 0 ∷ 0 ∷ [])
+    ∷ tells (broken the_head Head) (0 ∷ 0 ∷ 0 ∷ 4 ∷ [])
+    ∷ tells (broken the_head Head) (0 ∷ 0 ∷ 0 ∷ 6 ∷ 1 ∷ 0 ∷ [])
+    ∷ tells (broken 0 RecordLength) (book 1 [])
+    ∷ tells (broken 0 RecordLength) (book 1 (14 ∷ []))
+    ∷ tells (broken 1 RecordLength) (book 2 int32)
     ∷ []
 
 -- example 1's book cut after n bytes: as it is, its length is not the slice's; with its length put right, the record that is cut is told
-abbrev cut_told : ℕ → Fault
-cut_told n = pick (ltb n 7) (In the_head Head) (pick (ltb n 21) (In 0 RecordLength) (In 1 RecordLength))
+abbrev cut_told : ℕ → Verdict
+cut_told n = pick (ltb n 7) (broken the_head Head) (pick (ltb n 21) (broken 0 RecordLength) (broken 1 RecordLength))
 
 abbrev cuts : ℕ → List Tells
 cuts zero = []
-cuts (suc n) = tells (In the_head Head) (take n example1) ∷ tells (cut_told n) (set (take n example1) 3 n) ∷ cuts n
+cuts (suc n) = tells (broken the_head Head) (take n example1) ∷ tells (cut_told n) (set (take n example1) 3 n) ∷ cuts n
 
 -- what is told is this
-abbrev is_told : Fault → List ℕ → Bool
+abbrev is_told : Verdict → List ℕ → Bool
 is_told f b = eqb (fault_word (fault_of b)) (fault_word f)
 
 -- breaks that rule alone, is refused, and is told so
@@ -304,7 +303,7 @@ abbrev holds : Tells → Bool
 holds (tells f b) = is_told f b
 
 abbrev is_right_book : List ℕ → Bool
-is_right_book b = both (book_ok b) (is_told Nothing b)
+is_right_book b = both (book_ok b) (is_told (Ok tt) b)
 
 types1 :
     types_of example1

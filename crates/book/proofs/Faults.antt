@@ -13,10 +13,9 @@ use Rattle.book.specs.Rules.{size_ok, version_ok, type_count_ok, head_ok, member
 use Rattle.book.specs.Rules.{id_ok, link_ok, flags_ok, construct_ok, label_count_ok, first_of_union, first_id_ok, first_kind_ok, first_default_ok, first_label_ok, member_ok, members_ok, type_ok, record_ok, records_ok, book_ok}
 use Rattle.book.specs.declared.fault.Reason.{Reason}
 use Rattle.book.specs.declared.fault.Reason.TheVariants.{Head, RecordLength, CodeRange, TypeLink, Bound, MemberList, FirstMember}
-use Rattle.book.specs.declared.fault.Fault.{Fault}
-use Rattle.book.specs.declared.fault.Fault.TheVariants.{Nothing, In}
+use Rattle.std.specs.Prelude.{Ok, Err, is_ok}
 use Rattle.book.proofs.Judging.{few_types}
-use Rattle.book.specs.Fault.{reason_number, fault_number, is_right, the_head, unless, ◌then◌, head_fault, own_fault, member_fault, members_fault, record_fault, records_fault, fault_of}
+use Rattle.book.specs.Fault.{reason_number, Verdict, fault_number, is_right, broken, the_head, unless, ◌then◌, head_fault, own_fault, member_fault, members_fault, record_fault, records_fault, fault_of}
 
 -- THE NUMBERS
 pub record Told (n : ℕ) : Type 0 where
@@ -33,58 +32,60 @@ reason_told Bound = record { low = omega arith; high = omega arith }
 reason_told MemberList = record { low = omega arith; high = omega arith }
 reason_told FirstMember = record { low = omega arith; high = omega arith }
 
-pub number_in : (f : Fault) (k n : ℕ) (why : Reason) → f ≡ In k why → n ≡ reason_number why → n ≡ fault_number f
-unfolding fault_number
-number_in f k n why e h = rw e h
-
 -- ONE RULE, AND THE NEXT
 module _ (k : ℕ) (why : Reason) where
-  right_unless : (t : Bool) → is_right (unless t (In k why)) ≡ t
+  right_unless : (t : Bool) → is_right (unless t (broken k why)) ≡ t
   unfolding is_right unless
   right_unless true = refl
   right_unless false = refl
 
   -- two rules of one reason are one
-  pub together : (a b : Bool) (next : Fault) → (unless a (In k why) then unless b (In k why) then next) ≡ (unless (a && b) (In k why) then next)
+  pub together : (a b : Bool) (next : Verdict) → (unless a (broken k why) then unless b (broken k why) then next) ≡ (unless (a && b) (broken k why) then next)
   unfolding unless ◌then◌
   together true b next = refl
   together false b next = refl
 
-  pub together_last : (a b : Bool) → (unless a (In k why) then unless b (In k why)) ≡ unless (a && b) (In k why)
+  pub together_last : (a b : Bool) → (unless a (broken k why) then unless b (broken k why)) ≡ unless (a && b) (broken k why)
   unfolding unless ◌then◌
   together_last true b = refl
   together_last false b = refl
 
-right_then : (f g : Fault) → is_right (f then g) ≡ both (is_right f) (is_right g)
+right_then : (f g : Verdict) → is_right (f then g) ≡ both (is_right f) (is_right g)
 unfolding is_right ◌then◌
-right_then Nothing g = refl
-right_then (In k why) g = refl
+right_then (Ok u) g = refl
+right_then (Err x) g = refl
 
-pub right_nothing : (f : Fault) → is_right f ≡ true → f ≡ Nothing
+-- as the library asks it
+pub right_is : (f : Verdict) → is_ok f ≡ is_right f
 unfolding is_right
-right_nothing Nothing e = refl
-right_nothing (In k why) e = absurd (apart e)
+right_is (Ok u) = refl
+right_is (Err x) = refl
+
+pub right_nothing : (f : Verdict) → is_right f ≡ true → f ≡ Ok tt
+unfolding is_right
+right_nothing (Ok u) e = refl
+right_nothing (Err x) e = absurd (apart e)
 
 -- a rule that is kept, and one that is not
-right_kept : (k : ℕ) (why : Reason) (t : Bool) (f : Fault) → is_right (unless t (In k why) then f) ≡ both t (is_right f)
-right_kept k why t f = rw (right_then (unless t (In k why)) f, right_unless k why t)
+right_kept : (k : ℕ) (why : Reason) (t : Bool) (f : Verdict) → is_right (unless t (broken k why) then f) ≡ both t (is_right f)
+right_kept k why t f = rw (right_then (unless t (broken k why)) f, right_unless k why t)
 
 both_all : (b : Bool) → b ≡ both b true
 both_all true = refl
 both_all false = refl
 
 -- THE RULES IN THE ORDER OF A READING ARE ALL RULES
-pub head_rules : (b : List ℕ) → head_fault b ≡ unless (head_ok b) (In the_head Head)
+pub head_rules : (b : List ℕ) → head_fault b ≡ unless (head_ok b) (broken the_head Head)
 unfolding head_fault head_ok
-head_rules b = rw (together the_head Head (size_ok b) (version_ok b) (unless (type_count_ok b) (In the_head Head)), together_last the_head Head (size_ok b && version_ok b) (type_count_ok b))
+head_rules b = rw (together the_head Head (size_ok b) (version_ok b) (unless (type_count_ok b) (broken the_head Head)), together_last the_head Head (size_ok b && version_ok b) (type_count_ok b))
 
 -- a record's own bytes by their reasons
-abbrev pub by_reasons : ℕ → BookType → Fault
+abbrev pub by_reasons : ℕ → BookType → Verdict
 by_reasons k t =
-    unless (codes_ok t) (In k CodeRange)
-    then unless (bounds_ok t) (In k Bound)
-    then unless (element_ok k t) (In k TypeLink)
-    then unless (count_ok t) (In k MemberList)
+    unless (codes_ok t) (broken k CodeRange)
+    then unless (bounds_ok t) (broken k Bound)
+    then unless (element_ok k t) (broken k TypeLink)
+    then unless (count_ok t) (broken k MemberList)
 
 pub own_rules : (k : ℕ) (t : BookType) → own_fault k t ≡ by_reasons k t
 unfolding own_fault codes_ok bounds_ok count_ok
@@ -144,7 +145,7 @@ module _ (types : List BookType) where
   record_right k s =
       let members = members_fault types k (type_of s) [] (type_of s).members (pair s 0 - 14) in
       rw
-      (right_kept k RecordLength (inside_ok s) (unless (own_size_ok s) (In k RecordLength) then own_fault k (type_of s) then members), right_kept k RecordLength (own_size_ok s) (own_fault k (type_of s) then members), right_then (own_fault k (type_of s)) members, own_right k (type_of s), members_right types k (type_of s) [] (type_of s).members (pair s 0 - 14))
+      (right_kept k RecordLength (inside_ok s) (unless (own_size_ok s) (broken k RecordLength) then own_fault k (type_of s) then members), right_kept k RecordLength (own_size_ok s) (own_fault k (type_of s) then members), right_then (own_fault k (type_of s)) members, own_right k (type_of s), members_right types k (type_of s) [] (type_of s).members (pair s 0 - 14))
       (ordered (inside_ok s) (own_size_ok s) (own_ok k (type_of s)) (filled (type_of s).members (pair s 0 - 14)) (members_ok types k (type_of s) [] (type_of s).members))
     where
       ordered : (a b o f m : Bool) → both a (both b (both o (both f m))) ≡ both (both a (both b f)) (both o m)
@@ -161,7 +162,7 @@ module _ (types : List BookType) where
       rw (right_then (record_fault types k s) (records_fault types (suc k) n (past_type s)), record_right k s, records_right (suc k) n (past_type s))
 
   -- a record that keeps every rule
-  pub record_nothing : (k : ℕ) (s : List ℕ) → true ≡ record_ok types k s → Nothing ≡ record_fault types k s
+  pub record_nothing : (k : ℕ) (s : List ℕ) → true ≡ record_ok types k s → Ok tt ≡ record_fault types k s
   record_nothing k s e = sym (right_nothing (record_fault types k s) (record_right k s ∙ sym e))
 
 -- NOTHING IS WRONG WITH A BOOK EXACTLY WHERE IT IS RIGHT
@@ -170,37 +171,42 @@ unfolding fault_of book_ok
 book_right b =
     rw (right_then (head_fault b) (records_fault (types_of b) 0 (type_count b) (drop 7 b)), head_rules b, right_unless the_head Head (head_ok b), records_right (types_of b) 0 (type_count b) (drop 7 b))
 
-pub told_wrong : (b : List ℕ) (k : ℕ) (why : Reason) → fault_of b ≡ In k why → book_ok b ≡ false
+pub told_wrong : (b : List ℕ) (k : ℕ) (why : Reason) → fault_of b ≡ broken k why → book_ok b ≡ false
 unfolding is_right
 told_wrong b k why e = sym (book_right b) ∙ ap is_right e
 
-pub told_nothing : (b : List ℕ) → fault_of b ≡ Nothing → book_ok b ≡ true
+pub told_nothing : (b : List ℕ) → fault_of b ≡ Ok tt → book_ok b ≡ true
 unfolding is_right
 told_nothing b e = sym (book_right b) ∙ ap is_right e
 
-pub right_told : (b : List ℕ) → book_ok b ≡ true → fault_of b ≡ Nothing
+pub right_told : (b : List ℕ) → book_ok b ≡ true → fault_of b ≡ Ok tt
 right_told b e = right_nothing (fault_of b) (book_right b ∙ e)
 
+-- and then its number is 0
+pub right_number : fault_number (Ok tt) ≡ 0
+unfolding fault_number
+right_number = refl
+
 -- A RECORD'S NUMBER HAS TWO BYTES
-unfoldable pub Short : Fault → Type 0
-Short Nothing = Unit {0}
-Short (In k why) = k ≤ 65535
+unfoldable pub Short : Verdict → Type 0
+Short (Ok u) = Unit {0}
+Short (Err f) = f.at ≤ 65535
 
-short_then : (f g : Fault) → Short f → Short g → Short (f then g)
+short_then : (f g : Verdict) → Short f → Short g → Short (f then g)
 unfolding Short ◌then◌
-short_then Nothing g x y = y
-short_then (In k why) g x y = x
+short_then (Ok u) g x y = y
+short_then (Err f) g x y = x
 
-short_unless : (t : Bool) (k : ℕ) (why : Reason) → k ≤ 65535 → Short (unless t (In k why))
+short_unless : (t : Bool) (k : ℕ) (why : Reason) → k ≤ 65535 → Short (unless t (broken k why))
 unfolding Short unless
 short_unless true k why h = tt
 short_unless false k why h = h
 
 module _ (types : List BookType) (k : ℕ) (h : k ≤ 65535) where
-  next : (t : Bool) (why : Reason) (f : Fault) → Short f → Short (unless t (In k why) then f)
-  next t why f x = short_then (unless t (In k why)) f (short_unless t k why h) x
+  next : (t : Bool) (why : Reason) (f : Verdict) → Short f → Short (unless t (broken k why) then f)
+  next t why f x = short_then (unless t (broken k why)) f (short_unless t k why h) x
 
-  last : (t : Bool) (why : Reason) → Short (unless t (In k why))
+  last : (t : Bool) (why : Reason) → Short (unless t (broken k why))
   last t why = short_unless t k why h
 
   own_short : (t : BookType) → Short (own_fault k t)
@@ -229,10 +235,10 @@ book_short : (b : List ℕ) → Short (fault_of b)
 unfolding fault_of unless ◌then◌ Short
 book_short b = rw (head_rules b) (by_head (head_ok b) refl)
   where
-    by_head : (t : Bool) → head_ok b ≡ t → Short (unless t (In the_head Head) then records_fault (types_of b) 0 (type_count b) (drop 7 b))
+    by_head : (t : Bool) → head_ok b ≡ t → Short (unless t (broken the_head Head) then records_fault (types_of b) 0 (type_count b) (drop 7 b))
     by_head true e = records_short (types_of b) 0 (type_count b) (drop 7 b) (omega (arith, few_types b e))
     by_head false e = omega arith
 
-pub told_short : (b : List ℕ) (k : ℕ) (why : Reason) → fault_of b ≡ In k why → k ≤ 65535
+pub told_short : (b : List ℕ) (k : ℕ) (why : Reason) → fault_of b ≡ broken k why → k ≤ 65535
 unfolding Short
 told_short b k why e = rw e at (book_short b)

@@ -43,10 +43,10 @@ indexing_more b t u n i p q k x h l e z s =
     further u t i e = rw (← add-one i, ← drop-drop 1 i u, ← drop-drop 1 i t, e)
 
 pub indexing_end : (b t u : List ℕ) (n i p c y : ℕ) → Indexing b t u n i p → n ≤ i → c ≡ type_count b
-    → y ≡ min 64 (length t) → n ≡ min c y → u ≡ indexed b t
+    → y ≡ min c 64 → n ≡ min y (length t) → u ≡ indexed b t
 unfolding places_from
 indexing_end b t u n i p c y x h f g k =
-    let e : n ≡ index_count b (length t) = rw (f, g) at k in
+    let e : n ≡ index_count b (length t) = omega (arith, f, g, k) in
     let d : i ≡ n = omega (arith, x.upto) in
     let z : n - n ≡ 0 = omega arith in
     let l : take n u ≡ places_from b 7 n = sym (append-nil (take n u)) ∙ (rw (d, z) at x.places) in

@@ -1,20 +1,20 @@
 -- Laws of the judge's tests. Assumes nothing.
 use Prim.Native.Nat.{ℕ, zero, suc, ◌<◌, ◌≤◌}
 use mathlib.Core.Path.{◌≡◌, refl, sym, ap, ◌∙◌}
-use mathlib.Core.Bool.{Bool, true, false, not, ◌&&◌, ◌||◌, and-true}
-use mathlib.Core.List.{List, [], ◌∷◌, ◌++◌}
+use mathlib.Core.Bool.{Bool, true, false, ◌&&◌, ◌||◌, and-true}
+use mathlib.Core.List.{List, [], ◌∷◌, ◌++◌, nil≢cons}
 use native.Mathlib.Omega.{arith}
 use lib.Dec.{eqb, ltb, leb}
 use lib.ListN.{length, drop}
-use borrow.Author.Tests.{not-true, not-false, le-leb, eq-eqb, ne_eqb, leb-true, eqb-true}
+use borrow.Author.Tests.{le-leb, eq-eqb, ne_eqb, leb-true, eqb-true}
 use Rattle.ground.specs.Choice.{every}
 use Rattle.ground.proofs.Tests.{both_second}
 use Rattle.book.specs.declared.member.Run.{Run}
 use Rattle.book.specs.Types.{Member, BookType, bounded, no_index, member_of, past_member, members_of, type_count}
-use Rattle.book.specs.Places.{from, member_at, type_at, Skipped, listed, earlier, Below, After}
+use Rattle.book.specs.Places.{from, member_at, type_at, places_left, listed, earlier, Below}
 use Rattle.book.specs.Rules.{codes_ok, kind_ok, extensibility_ok, base_ok, bound_flag_ok, bounds_ok, array_bound_ok, bound_ok, element_ok, count_ok, member_count_ok, member_kind_ok, some_member_ok, own_ok, other_id, id_ok, link_ok, flags_ok, construct_ok, label_count_ok, first_of_union, first_id_ok, first_kind_ok, first_default_ok, first_label_ok, member_ok, members_ok, size_ok, version_ok, type_count_ok, head_ok}
 use Rattle.book.proofs.Kept.{kept}
-use Rattle.book.proofs.Places.{run, run_more, run_none, length_members}
+use Rattle.book.proofs.Places.{length_members, listed_none, listed_some}
 
 -- a type that has nothing but a kind and an extensibility keeps every rule of a record's own bytes
 pub plain_own : (t : BookType) (k kind extensibility base flag bound element n : ℕ)
@@ -46,30 +46,27 @@ unfolding link_ok
 link_some t m k kind l f g h = rw (← f, ← g, ne_eqb kind 21 h)
 
 -- a rule that every member of a run keeps
-module _ (b : List ℕ) (f : Member → Bool) (ms : Run) (whole : Bool) (inv : every f (listed b ms) ≡ whole) where
-  pub every_bad : (t : Bool) → 0 < ms.left → t ≡ f (member_at b ms.at) → not t ≡ true → false ≡ whole
-  unfolding every
-  every_bad t h e z =
-      let g : f (member_at b ms.at) ≡ false = sym e ∙ not-true t z in
-      rw (run_more b ms h, g) at inv
+module _ (b : List ℕ) (f : Member → Bool) (s : Run) (whole : Bool) (inv : every f (listed b s) ≡ whole) where
+  module _ (p : ℕ) (t : Run) (y : places_left s ≡ p ∷ places_left t) (r : Bool) (e : r ≡ f (member_at b p)) where
+    pub every_bad : r ≡ false → false ≡ whole
+    unfolding every
+    every_bad z =
+        let g : f (member_at b p) ≡ false = sym e ∙ z in
+        rw (listed_some b s p t y, g) at inv
 
-  pub every_turn : (t : Bool) (r : Run) → 0 < ms.left → t ≡ f (member_at b ms.at) → not t ≡ false → After b ms r → every f (listed b r) ≡ whole
-  unfolding every
-  every_turn t r h e z a =
-      let g : f (member_at b ms.at) ≡ true = sym e ∙ not-false t z in
-      rw a.is (rw (run_more b ms h, g) at inv)
+    pub every_turn : r ≡ true → every f (listed b t) ≡ whole
+    unfolding every
+    every_turn z =
+        let g : f (member_at b p) ≡ true = sym e ∙ z in
+        rw (listed_some b s p t y, g) at inv
 
-  pub every_end : ms.left ≤ 0 → true ≡ whole
+  pub every_end : places_left s ≡ [] → true ≡ whole
   unfolding every
-  every_end h = rw (run_none b ms h) at inv
+  every_end h = rw (listed_none b s h) at inv
 
 pub ruleset every_laws = (every_bad, every_turn, every_end)
 
 -- the members before one
-pub before_is : (b : List ℕ) (at p n : ℕ) → Skipped b at 14 p → listed b (run p n) ≡ earlier b at n
-unfolding listed earlier
-before_is b at p n s = rw s.is
-
 length_earlier : (b : List ℕ) (at n : ℕ) → length (earlier b at n) ≡ n
 unfolding earlier
 length_earlier b at n = length_members n (drop 14 (from b at))
@@ -115,6 +112,14 @@ unfolding members_of past_members
 one_more zero s = refl
 one_more (suc n) s =
     ap (λ (ms : List Member). member_of s ∷ ms) (one_more n (past_member s) ∙ (rw (past_first n s)))
+
+-- the member that comes after n of l
+pub after_members : (n l : ℕ) (s : List ℕ) (m : Member) (ms : List Member) → drop n (members_of l s) ≡ m ∷ ms → members_of (suc n) s ≡ members_of n s ++ m ∷ []
+unfolding members_of
+after_members zero zero s m ms e = absurd (nil≢cons e)
+after_members zero (suc l) s m ms e = cc
+after_members (suc n) zero s m ms e = absurd (nil≢cons e)
+after_members (suc n) (suc l) s m ms e = ap (λ (xs : List Member). member_of s ∷ xs) (after_members n l (past_member s) m ms e)
 
 -- the members of the type at `at`, record k, keep the rules
 abbrev pub all_ok : List ℕ → List BookType → ℕ → ℕ → Bool

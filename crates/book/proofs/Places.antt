@@ -14,8 +14,9 @@ use mir.Syntax.{w32}
 use mir.Val.{to_z}
 use Rattle.book.specs.declared.member.Run.{Run}
 use Rattle.book.specs.declared.member.Head.{Head}
-use Rattle.book.specs.Types.{byte, pair, quad, labels_of, member_of, past_member, members_of, type_of, type_count, no_type, type_no, optional}
-use Rattle.book.specs.Places.{from, is_there, HeadOf, member_at, type_at, onward, Skipped, listed, later, Started, After, types_by, PlaceOf}
+use Rattle.std.specs.Prelude.{map}
+use Rattle.book.specs.Types.{Member, byte, pair, quad, labels_of, member_of, past_member, members_of, type_of, type_count, no_type, type_no, optional}
+use Rattle.book.specs.Places.{from, is_there, HeadOf, member_at, type_at, onward, Skipped, member_places, places_left, listed, earlier, Started, types_by, PlaceOf}
 
 -- the bytes left at p
 module _ (b : List ℕ) (p : ℕ) where
@@ -180,43 +181,66 @@ pub member_count_is : (s : List ℕ) (r : ℕ) → r ≡ pair s 12 → r ≡ len
 unfolding type_of
 member_count_is s r e = e ∙ sym (length_members (pair s 12) (drop 14 s))
 
-abbrev pub run : ℕ → ℕ → Run
-run p n = record { at = p; left = n }
+-- the members at the places of a run
+listed_of : (b : List ℕ) (p n : ℕ) → map (member_at b) (member_places b p n) ≡ members_of n (from b p)
+unfolding member_places members_of past_member
+listed_of b p zero = refl
+listed_of b p (suc n) =
+    ap (λ (ms : List Member). member_at b p ∷ ms) (listed_of b (onward b p (9 + 4 * byte (from b p) 8)) n ∙ ap (members_of n) (from_onward b p (9 + 4 * byte (from b p) 8)))
 
-run_start : (b : List ℕ) (at p n : ℕ) → Skipped b at 14 p → n ≡ pair (from b at) 12 → n < 65536 → Started b at (run p n)
-unfolding listed type_of
-run_start b at p n s f h = record { place = s.place; left = f; small = h; bytes = s.is; is = rw (s.is, f) }
+module _ (b : List ℕ) (r : Run) (own : r.book.now ≡ b) where
+  pub listed_is : listed b r ≡ members_of r.left (from b r.at)
+  unfolding listed places_left
+  listed_is = rw own (listed_of b r.at r.left)
 
-module _ (b : List ℕ) (at n : ℕ) (f : n ≡ pair (from b at) 12) (h : n < 65536) (r : Bool) (e : r ≡ is_there b at 13) where
-  pub start_there : r ≡ true → Started b at (run (at + 14) n)
-  start_there y = run_start b at (at + 14) n (skip_to b at 14 (omega (arith, is_inside b at 13 r e y))) f h
+  module _ (at : ℕ) (s : Skipped b at 14 r.at) where
+    -- the members before one
+    pub before_is : listed b r ≡ earlier b at r.left
+    unfolding earlier
+    before_is = rw (listed_is, s.is)
 
-  pub start_cut : r ≡ false → Started b at (run (length b) n)
-  start_cut y = run_start b at (length b) n (skip_over b at 14 (omega (arith, is_outside b at 13 r e y))) f h
+    pub run_start : r.left ≡ pair (from b at) 12 → r.left < 65536 → Started b at r
+    unfolding type_of
+    run_start f h = record { book = own; place = s.place; left = f; small = h; bytes = s.is; is = rw (listed_is, s.is, f) }
 
-module _ (b : List ℕ) (ms : Run) (q : ℕ) (s : Skipped b ms.at (9 + 4 * byte (from b ms.at) 8) q) where
-  next : (l : ℕ) → l ≡ ms.left - 1 → After b ms (run q l)
-  unfolding listed later past_member
-  next l f = record { place = s.place; left = f; bytes = s.is; is = rw (s.is, f) }
+module _ (b : List ℕ) (at : ℕ) (r : Bool) (e : r ≡ is_there b at 13) where
+  pub start_there : r ≡ true → Skipped b at 14 (at + 14)
+  start_there y = skip_to b at 14 (omega (arith, is_inside b at 13 r e y))
 
-  pub run_next : After b ms (run q (ms.left - 1))
-  run_next = next (ms.left - 1) refl
+  pub start_cut : r ≡ false → Skipped b at 14 (length b)
+  start_cut y = skip_over b at 14 (omega (arith, is_outside b at 13 r e y))
 
-  pub run_last : ms.left ≡ 0 → After b ms (run q 0)
-  run_last h = next 0 (omega arith)
+length_places_of : (b : List ℕ) (p n : ℕ) → length (member_places b p n) ≡ n
+unfolding member_places
+length_places_of b p zero = refl
+length_places_of b p (suc n) = ap suc (length_places_of b (onward b p (9 + 4 * byte (from b p) 8)) n)
 
--- a run of which one is left: the member that it stands at, and those after it
-pub run_more : (b : List ℕ) (ms : Run) → 0 < ms.left → listed b ms ≡ member_at b ms.at ∷ later b ms
-unfolding listed later members_of
-run_more b ms h =
-    let j : ms.left ≡ suc (ms.left - 1) = omega arith in
-    ap (λ (l : ℕ). members_of l (from b ms.at)) j
+pub length_left : (r : Run) → length (places_left r) ≡ r.left
+unfolding places_left
+length_left r = length_places_of r.book.now r.at r.left
 
-pub run_none : (b : List ℕ) (ms : Run) → ms.left ≤ 0 → listed b ms ≡ []
-unfolding listed members_of
-run_none b ms h =
-    let e : ms.left ≡ 0 = omega arith in
-    rw e
+-- a run's next place, and the others
+module _ (r : Run) where
+  pub places_none : r.left ≡ 0 → places_left r ≡ []
+  unfolding places_left member_places
+  places_none h = rw h
+
+  pub places_some : (t : Run) → 0 < r.left → t.book ≡ r.book → Skipped r.book.now r.at (9 + 4 * byte (from r.book.now r.at) 8) t.at → t.left ≡ r.left - 1
+      → places_left r ≡ r.at ∷ places_left t
+  unfolding places_left member_places
+  places_some t h e s f =
+      let j : r.left ≡ suc (r.left - 1) = omega arith in
+      rw (e, s.place, f) (ap (λ (l : ℕ). member_places r.book.now r.at l) j)
+
+-- and the members there
+module _ (b : List ℕ) (r : Run) where
+  pub listed_none : places_left r ≡ [] → listed b r ≡ []
+  unfolding listed
+  listed_none h = rw h
+
+  pub listed_some : (p : ℕ) (t : Run) → places_left r ≡ p ∷ places_left t → listed b r ≡ member_at b p ∷ listed b t
+  unfolding listed
+  listed_some p t h = rw h
 
 -- the type with a number
 nothing : (b : List ℕ) → type_at b (length b) ≡ no_type

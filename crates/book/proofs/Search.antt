@@ -2,7 +2,7 @@
 use Prim.Native.Nat.{ℕ, ◌+◌, ◌<◌, ◌≤◌}
 use mathlib.Core.Path.{◌≡◌, refl, sym, ap, ◌∙◌}
 use mathlib.Core.Bool.{Bool, true, false}
-use mathlib.Core.List.{List, ◌∷◌}
+use mathlib.Core.List.{List, [], ◌∷◌}
 use mathlib.Core.Option.{Option, none, some}
 use native.Mathlib.Omega.{arith}
 use native.Mathlib.Numerals.{add-one}
@@ -14,12 +14,11 @@ use mir.Val.{to_z, of_z, SFits}
 use mir.Facts.{to_z-of_z}
 use Rattle.wire.specs.Signed.{same_z}
 use Rattle.book.specs.declared.member.Run.{Run}
-use Rattle.book.specs.declared.labels.Found.{Found}
-use Rattle.book.specs.declared.labels.Found.TheVariants.{At, Nothing}
+use Rattle.std.specs.Prelude.{Some, None, Option as Found}
 use Rattle.book.specs.Types.{Member, default}
-use Rattle.book.specs.Places.{member_at, type_at, listed, later, Started, After}
+use Rattle.book.specs.Places.{member_at, type_at, places_left, listed, Started}
 use Rattle.book.specs.Labels.{is_in, or_else, when, first_where, first_with, last_default, told}
-use Rattle.book.proofs.Places.{run_more, run_none}
+use Rattle.book.proofs.Places.{listed_none, listed_some}
 
 -- a label among the labels of a member: what holds of all of them holds of those from i on
 unfoldable pub past : ℕ → List ℤ → List ℤ
@@ -53,38 +52,41 @@ in_bits d ls t f e = e ∙ ap (λ (z : ℤ). is_in z ls) (to_z-of_z {w = w32} {z
 pub first_bits : (d : ℤ) (ms : List Member) (o : Option Member) → SFits w32 d → o ≡ first_with (to_z w32 (of_z w32 d)) ms → o ≡ first_with d ms
 first_bits d ms o f e = e ∙ ap (λ (z : ℤ). first_with z ms) (to_z-of_z {w = w32} {z = d} f)
 
--- the first member that holds a label
-pub first_start : (d : ℤ) (b : List ℕ) (at : ℕ) (ms : Run) → Started b at ms → first_with d (listed b ms) ≡ first_with d (type_at b at).members
-first_start d b at ms s = rw s.is
+-- the first member that passes a test
+module _ (f : Member → Bool) (b : List ℕ) (s : Run) (whole : Option Member) (inv : first_where f (listed b s) ≡ whole) where
+  module _ (p : ℕ) (t : Run) (y : places_left s ≡ p ∷ places_left t) (r : Bool) (e : r ≡ f (member_at b p)) where
+    pub where_found : r ≡ true → told b (Some p) ≡ whole
+    unfolding first_where when or_else told
+    where_found z =
+        let g : f (member_at b p) ≡ true = sym e ∙ z in
+        rw (listed_some b s p t y, g) at inv
 
-module _ (f : Member → Bool) (b : List ℕ) (ms : Run) (whole : Option Member) (inv : first_where f (listed b ms) ≡ whole) where
-  pub where_found : (t : Bool) → 0 < ms.left → t ≡ f (member_at b ms.at) → t ≡ true → told b (At ms.at) ≡ whole
-  unfolding first_where when or_else told
-  where_found t h e z = rw (run_more b ms h, ← e, z) at inv
+    pub where_turn : r ≡ false → first_where f (listed b t) ≡ whole
+    unfolding first_where when or_else
+    where_turn z =
+        let g : f (member_at b p) ≡ false = sym e ∙ z in
+        rw (listed_some b s p t y, g) at inv
 
-  pub where_turn : (t : Bool) (r : Run) → 0 < ms.left → t ≡ f (member_at b ms.at) → t ≡ false → After b ms r → first_where f (listed b r) ≡ whole
-  unfolding first_where when or_else
-  where_turn t r h e z a = rw a.is (rw (run_more b ms h, ← e, z) at inv)
-
-  pub where_end : ms.left ≤ 0 → told b Nothing ≡ whole
+  pub where_end : places_left s ≡ [] → told b None ≡ whole
   unfolding first_where told
-  where_end h = rw (run_none b ms h) at inv
+  where_end h = rw (listed_none b s h) at inv
 
-module _ (d : ℤ) (b : List ℕ) (ms : Run) (whole : Option Member) (inv : first_with d (listed b ms) ≡ whole) where
-  pub first_found : (t : Bool) → 0 < ms.left → t ≡ is_in d (member_at b ms.at).labels → t ≡ true → told b (At ms.at) ≡ whole
+-- the first member that holds a label
+module _ (d : ℤ) (b : List ℕ) (s : Run) (whole : Option Member) (inv : first_with d (listed b s) ≡ whole) where
+  module _ (p : ℕ) (t : Run) (y : places_left s ≡ p ∷ places_left t) (r : Bool) (e : r ≡ is_in d (member_at b p).labels) where
+    pub first_found : r ≡ true → told b (Some p) ≡ whole
+    unfolding first_with
+    first_found = where_found (λ m. is_in d m.labels) b s whole inv p t y r e
+
+    pub first_turn : r ≡ false → first_with d (listed b t) ≡ whole
+    unfolding first_with
+    first_turn = where_turn (λ m. is_in d m.labels) b s whole inv p t y r e
+
+  pub first_end : places_left s ≡ [] → told b None ≡ whole
   unfolding first_with
-  first_found = where_found (λ m. is_in d m.labels) b ms whole inv
+  first_end = where_end (λ m. is_in d m.labels) b s whole inv
 
-  pub first_turn : (t : Bool) (r : Run) → 0 < ms.left → t ≡ is_in d (member_at b ms.at).labels → t ≡ false → After b ms r
-      → first_with d (listed b r) ≡ whole
-  unfolding first_with
-  first_turn = where_turn (λ m. is_in d m.labels) b ms whole inv
-
-  pub first_end : ms.left ≤ 0 → told b Nothing ≡ whole
-  unfolding first_with
-  first_end = where_end (λ m. is_in d m.labels) b ms whole inv
-
-pub ruleset first_laws = (first_start, first_found, first_turn, first_end)
+pub ruleset first_laws = (first_found, first_turn, first_end)
 
 -- the last default
 pub or_none : (o : Option Member) → or_else o none ≡ o
@@ -97,33 +99,36 @@ unfolding or_else
 or_or none y z = refl
 or_or (some m) y z = refl
 
-module _ (b : List ℕ) (p : ℕ) (before : Found) (t : Bool) (e : t ≡ default (member_at b p)) where
-  pub default_here : t ≡ true → told b (At p) ≡ or_else (when (default (member_at b p)) (member_at b p)) (told b before)
-  unfolding or_else when told
-  default_here z = rw (← e, z)
-
-  pub default_not : t ≡ false → told b before ≡ or_else (when (default (member_at b p)) (member_at b p)) (told b before)
-  unfolding or_else when
-  default_not z = rw (← e, z)
-
 -- the last default of those to come, else what was found before
-unfoldable pub last_or : List ℕ → Found → List Member → Option Member
+unfoldable pub last_or : List ℕ → Found ℕ → List Member → Option Member
 last_or b before ms = or_else (last_default ms) (told b before)
 
-pub last_start : (b : List ℕ) (at : ℕ) (ms : Run) → Started b at ms → last_or b Nothing (listed b ms) ≡ last_default (type_at b at).members
+pub last_start : (b : List ℕ) (at : ℕ) (s : Run) → Started b at s → last_or b None (listed b s) ≡ last_default (type_at b at).members
 unfolding last_or told
-last_start b at ms s = rw (s.is, or_none)
+last_start b at s h = rw (h.is, or_none)
 
-module _ (b : List ℕ) (before : Found) (ms : Run) (whole : Option Member) (inv : last_or b before (listed b ms) ≡ whole) where
-  pub last_turn : (next : Found) (r : Run) → 0 < ms.left → told b next ≡ or_else (when (default (member_at b ms.at)) (member_at b ms.at)) (told b before) → After b ms r
-      → last_or b next (listed b r) ≡ whole
-  unfolding last_or last_default
-  last_turn next r h f a =
-      let i : last_or b before (member_at b ms.at ∷ later b ms) ≡ whole = rw (run_more b ms h) at inv in
-      rw (a.is, f, ← or_or (last_default (later b ms)) (when (default (member_at b ms.at)) (member_at b ms.at)) (told b before)) i
+module _ (b : List ℕ) (s : Run) (before : Found ℕ) (whole : Option Member) (inv : last_or b before (listed b s) ≡ whole) where
+  module _ (p : ℕ) (t : Run) (y : places_left s ≡ p ∷ places_left t) (r : Bool) (e : r ≡ default (member_at b p)) where
+    step : or_else (last_default (listed b t)) (or_else (when (default (member_at b p)) (member_at b p)) (told b before)) ≡ whole
+    unfolding last_or last_default
+    step =
+        let i : last_or b before (member_at b p ∷ listed b t) ≡ whole = rw (listed_some b s p t y) at inv in
+        sym (or_or (last_default (listed b t)) (when (default (member_at b p)) (member_at b p)) (told b before)) ∙ i
 
-  pub last_end : ms.left ≤ 0 → told b before ≡ whole
+    pub last_here : r ≡ true → last_or b (Some p) (listed b t) ≡ whole
+    unfolding last_or or_else when told
+    last_here z =
+        let g : default (member_at b p) ≡ true = sym e ∙ z in
+        rw g at step
+
+    pub last_turn : r ≡ false → last_or b before (listed b t) ≡ whole
+    unfolding last_or or_else when
+    last_turn z =
+        let g : default (member_at b p) ≡ false = sym e ∙ z in
+        rw g at step
+
+  pub last_end : places_left s ≡ [] → told b before ≡ whole
   unfolding last_or or_else last_default
-  last_end h = rw (run_none b ms h) at inv
+  last_end h = rw (listed_none b s h) at inv
 
-pub ruleset last_laws = (last_start, last_turn, last_end)
+pub ruleset last_laws = (last_here, last_turn, last_end)

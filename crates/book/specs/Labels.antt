@@ -1,11 +1,9 @@
 -- Labels of members: which member holds one, and which is the default.
-use Rattle.std.specs.Prelude.{ℕ, List, [], ◌∷◌, Bool, true, false, ◌||◌, ℤ}
+use Rattle.std.specs.Prelude.{ℕ, List, [], ◌∷◌, Bool, true, false, ◌||◌, ℤ, Some, None, Option as Found}
 use Rattle.std.proofs.Math.Option.{Option, none, some}
 use Rattle.wire.specs.Signed.{same_z}
 use Rattle.book.specs.Types.{Member, default}
 use Rattle.book.specs.Places.{member_at}
-use Rattle.book.specs.declared.labels.Found.{Found}
-use Rattle.book.specs.declared.labels.Found.TheVariants.{At, Nothing}
 
 -- d is one of these labels
 unfoldable pub is_in : ℤ → List ℤ → Bool
@@ -36,6 +34,6 @@ last_default [] = none
 last_default (m ∷ ms) = or_else (last_default ms) (when (default m) m)
 
 -- what the code's answer tells
-unfoldable pub told : List ℕ → Found → Option Member
-told b (At p) = some (member_at b p)
-told b Nothing = none
+unfoldable pub told : List ℕ → Found ℕ → Option Member
+told b (Some p) = some (member_at b p)
+told b None = none

@@ -1,11 +1,10 @@
 // What is asked of the type at a place, by who reads values.
 ghost use Rattle.std.specs.Prelude.{◌≡◌, ◌+◌, ◌<◌, length};
-ghost use Rattle.book.specs.Places.{type_at, types_by};
-ghost use Rattle.book.specs.Asked.{is_sequence, is_mutable, is_delimited, read_as, primitive_element};
+ghost use Rattle.book.specs.Places.{type_at};
+ghost use Rattle.book.specs.Asked.{is_sequence, is_mutable, is_delimited, read_as};
 
 use crate::bytes::{byte_there, is_there, quad_there};
-use crate::index::place;
-use crate::types::{bound, element, extensibility, is_bounded};
+use crate::types::{bound, extensibility, is_bounded};
 use kinds::names::{BITMASK, SEQUENCE};
 
 pub fn kind_at(book: &[u8], at: usize) -> u8
@@ -74,12 +73,4 @@ pub fn read_as_there(book: &[u8], at: usize) -> u8
         return kinds::bitmask_stored(bounded, quad_there(book, at, 6));
     }
     kind
-}
-
-// Whether the elements of the list at a place are primitives. The Rust's is_element_type_kind_primitive.
-pub fn primitive_element(book: &[u8], index: &[u32], at: usize) -> bool
-    ensures { result ≡ primitive_element (types_by book.now index.now) (type_at book.now at) }
-{
-    let q = place(book, index, element(book, at));
-    kinds::is_primitive(kind_at(book, q))
 }

@@ -26,7 +26,7 @@ pub fn byte_there(b: &[u8], p: usize, k: usize) -> usize
     ensures { (result ≡ byte (from b.now p) k) × (result < 256) }
 {
     let i = p + k;
-    ground::wide(b[i]) as usize
+    usize::from(b[i])
 }
 
 // The number of two bytes that are there: one load, as the machine has it.
@@ -35,7 +35,7 @@ pub fn pair_there(b: &[u8], p: usize, k: usize) -> usize
     ensures { (result ≡ pair (from b.now p) k) × (result < 65536) }
 {
     let i = p + k;
-    wire::number::two(b[i], b[i + 1]) as usize
+    usize::from(u16::from_be_bytes([b[i], b[i + 1]]))
 }
 
 // The number of four bytes that are there.
@@ -44,7 +44,7 @@ pub fn quad_there(b: &[u8], p: usize, k: usize) -> u32
     ensures { result ≡ quad (from b.now p) k }
 {
     let i = p + k;
-    wire::number::four(b[i], b[i + 1], b[i + 2], b[i + 3]) as u32
+    u32::from_be_bytes([b[i], b[i + 1], b[i + 2], b[i + 3]])
 }
 
 // The byte k bytes after p.

@@ -1,9 +1,9 @@
 // What is wrong with a book: a record and a reason, in order 2's words.
 ghost use Rattle.std.specs.Prelude.{◌≡◌};
-ghost use Rattle.book.specs.Fault.{reason_number, is_right, fault_number};
+ghost use Rattle.book.specs.Fault.{reason_number};
 
 // "head, record length, code out of range, type link, bound, member list, union's first member"
-#[derive(Clone, Copy)]
+#[derive(Clone, Copy, PartialEq, Eq)]
 pub enum Reason {
     Head,
     RecordLength,
@@ -14,11 +14,11 @@ pub enum Reason {
     FirstMember,
 }
 
-// Nothing is wrong; or this record, "65,535 for the book's head", by this reason.
-#[derive(Clone, Copy)]
-pub enum Fault {
-    Nothing,
-    In(usize, Reason),
+// This record, "65,535 for the book's head", is wrong by this reason.
+#[derive(Clone, Copy, PartialEq, Eq)]
+pub struct Fault {
+    pub at: usize,
+    pub reason: Reason,
 }
 
 // The record that stands for the book's head.
@@ -42,22 +42,10 @@ impl Reason {
 }
 
 impl Fault {
-    pub fn is_right(self) -> bool
-        ensures { result ≡ is_right self }
-    {
-        match self {
-            Fault::Nothing => true,
-            Fault::In(_, _) => false,
-        }
-    }
-
-    // The reason's number; 0 where nothing is wrong.
+    // The reason's number.
     pub fn number(self) -> u8
-        ensures { result ≡ fault_number self }
+        ensures { result ≡ reason_number self.reason }
     {
-        match self {
-            Fault::Nothing => 0,
-            Fault::In(_, why) => why.number(),
-        }
+        self.reason.number()
     }
 }

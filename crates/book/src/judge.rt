@@ -3,14 +3,14 @@
 ghost use Rattle.std.specs.Prelude.{◌≡◌, true, ◌&&◌, List, [], ℕ, ◌+◌, ◌<◌, ◌≤◌, length};
 ghost use Rattle.ground.specs.Choice.{pick, every};
 ghost use Rattle.book.specs.Types.{BookType};
-ghost use Rattle.book.specs.Places.{from, Bare, member_at, type_at, listed, earlier, Below, indexed, types_by};
+ghost use Rattle.book.specs.Places.{from, Bare, member_at, type_at, listed, earlier, Below, indexed, types_in};
 ghost use Rattle.book.specs.Rules.{head_ok, codes_ok, bounds_ok, element_ok, count_ok, own_ok, other_id, link_ok, first_of_union, first_kind_ok};
 ghost use Rattle.book.specs.Rules.{flags_ok, construct_ok, label_count_ok, record_ok, book_ok};
-ghost use Rattle.book.specs.Fault.{own_fault, member_fault, members_fault, record_fault, records_fault, fault_of};
+ghost use Rattle.book.specs.Fault.{broken, unless, own_fault, member_fault, members_fault, record_fault, records_fault, fault_of};
 
 use crate::bytes::{byte_at, byte_there, left_at, pair_at, pair_there, quad_at, quad_there, skip};
 use crate::fault::{Fault, HEAD, Reason};
-use crate::index::{index, place};
+use crate::index::{Types, index};
 use crate::member::Run;
 use crate::types::{ANNOTATION, ARRAY, BITMASK, ENUM, SEQUENCE, STRUCTURE, UNION};
 use crate::{member, types};
@@ -67,23 +67,24 @@ fn count_ok(b: &[u8], at: usize) -> bool
         & (!((kind == ENUM) | (kind == UNION)) | (1 <= n))
 }
 
+// That record k is wrong by this reason, unless the rule is kept.
+fn unless(kept: bool, k: usize, reason: Reason) -> Result<(), Fault>
+    ensures { result ≡ unless kept (broken k reason) }
+{
+    if kept {
+        return Ok(());
+    }
+    Err(Fault { at: k, reason })
+}
+
 // The own bytes of record k. Fields that stand next to each other and have one reason are tested together.
-fn own_fault(b: &[u8], at: usize, k: usize) -> Fault
+fn own_fault(b: &[u8], at: usize, k: usize) -> Result<(), Fault>
     ensures { result ≡ own_fault k (type_at b.now at) }
 {
-    if !codes_ok(b, at) {
-        return Fault::In(k, Reason::CodeRange);
-    }
-    if !bound_ok(b, at) {
-        return Fault::In(k, Reason::Bound);
-    }
-    if !element_ok(b, at, k) {
-        return Fault::In(k, Reason::TypeLink);
-    }
-    if !count_ok(b, at) {
-        return Fault::In(k, Reason::MemberList);
-    }
-    Fault::Nothing
+    unless(codes_ok(b, at), k, Reason::CodeRange)?;
+    unless(bound_ok(b, at), k, Reason::Bound)?;
+    unless(element_ok(b, at, k), k, Reason::TypeLink)?;
+    unless(count_ok(b, at), k, Reason::MemberList)
 }
 
 fn other_id(b: &[u8], p: usize, id: u32) -> bool
@@ -94,15 +95,12 @@ fn other_id(b: &[u8], p: usize, id: u32) -> bool
 
 // Whether none of the members has this id.
 fn id_is_new(b: &[u8], ms: Run, id: u32) -> bool
-    ensures { result ≡ every (other_id id) (listed b.now ms) }
+    ensures { result ≡ every (other_id id) (listed b.now ms.entry) }
 {
-    let mut rest = ms;
-    while 0 < rest.left {
-        let p = rest.at;
+    for p in ms {
         if !other_id(b, p, id) {
             return false;
         }
-        rest = member::after(b, rest);
     }
     true
 }
@@ -117,6 +115,7 @@ fn id_differs(b: &[u8], at: usize, done: usize, top: u64, id: u32) -> bool
     }
     let start = skip(b, at, 14);
     let before = Run {
+        book: b,
         at: start,
         left: done,
     };
@@ -141,100 +140,66 @@ fn first_of_union(b: &[u8], at: usize, done: usize) -> bool
 }
 
 // Whether the member at p, if it is the first of a union, has a type that a discriminator may have.
-fn first_kind_ok(b: &[u8], index: &[u32], first: bool, p: usize) -> bool
-    ensures { result ≡ first_kind_ok (types_by b.now index.now) «first» (member_at b.now p) }
+fn first_kind_ok(types: &Types, first: bool, p: usize) -> bool
+    ensures { result ≡ first_kind_ok (types_in types.now) «first» (member_at types.now.book.now p) }
 {
     if !first {
         return true;
     }
-    let kind = types::kind(b, place(b, index, member::type_index(b, p)));
+    let kind = types::kind(types.book, types.member_place(p));
     ground::in_range(kind as u64, 1, 15) | (kind == BITMASK) | (kind == ENUM)
 }
 
 // The member at p, of the type at `at`, record k, with `done` members before it, whose ids are below `top`; `id` is its own. What is asked of a
 // union's first alone comes after what is asked of the same field in every member.
 fn member_fault(
-    b: &[u8],
-    index: &[u32],
+    types: &Types,
     at: usize,
     k: usize,
     done: usize,
     top: u64,
     p: usize,
     id: u32,
-) -> Fault
-    requires { Below top (earlier b.now at done) × (id ≡ (member_at b.now p).id) }
-    ensures { result ≡ member_fault (types_by b.now index.now) k (type_at b.now at) (earlier b.now at done) (member_at b.now p) }
+) -> Result<(), Fault>
+    requires { Below top (earlier types.now.book.now at done) × (id ≡ (member_at types.now.book.now p).id) }
+    ensures { result ≡ member_fault (types_in types.now) k (type_at types.now.book.now at) (earlier types.now.book.now at done) (member_at types.now.book.now p) }
 {
+    let b = types.book;
     let first = first_of_union(b, at, done);
-    if !id_differs(b, at, done, top, id) {
-        return Fault::In(k, Reason::MemberList);
-    }
-    if first & (id != 0) {
-        return Fault::In(k, Reason::FirstMember);
-    }
-    if !link_ok(b, at, k, p) {
-        return Fault::In(k, Reason::TypeLink);
-    }
-    if !first_kind_ok(b, index, first, p) {
-        return Fault::In(k, Reason::FirstMember);
-    }
-    if 3 < member::flags(b, p) {
-        return Fault::In(k, Reason::CodeRange);
-    }
-    if first & member::is_default(b, p) {
-        return Fault::In(k, Reason::FirstMember);
-    }
-    if 2 < member::construct(b, p) {
-        return Fault::In(k, Reason::CodeRange);
-    }
+    unless(id_differs(b, at, done, top, id), k, Reason::MemberList)?;
+    unless(!first | (id == 0), k, Reason::FirstMember)?;
+    unless(link_ok(b, at, k, p), k, Reason::TypeLink)?;
+    unless(first_kind_ok(types, first, p), k, Reason::FirstMember)?;
+    unless(member::flags(b, p) <= 3, k, Reason::CodeRange)?;
+    unless(!first | !member::is_default(b, p), k, Reason::FirstMember)?;
+    unless(member::construct(b, p) <= 2, k, Reason::CodeRange)?;
     let labels = member::label_count(b, p);
-    if 16 < labels {
-        return Fault::In(k, Reason::MemberList);
-    }
-    if first & (labels != 0) {
-        return Fault::In(k, Reason::FirstMember);
-    }
-    Fault::Nothing
-}
-
-// A number above the id, and no less than `top`.
-fn above(top: u64, id: u32) -> u64
-    ensures { (top ≤ result) × (id < result) }
-{
-    let next = id as u64 + 1;
-    if next < top { top } else { next }
+    unless(labels <= 16, k, Reason::MemberList)?;
+    unless(!first | (labels == 0), k, Reason::FirstMember)
 }
 
 // The members of the type at `at`, record k, which leaves them `room` bytes. Ids mostly rise from member to member, and are then compared
 // with the greatest before them alone.
-fn members_fault(b: &[u8], index: &[u32], at: usize, k: usize, room: usize) -> Fault
-    ensures { result ≡ members_fault (types_by b.now index.now) k (type_at b.now at) [] (type_at b.now at).members room }
+fn members_fault(types: &Types, at: usize, k: usize, room: usize) -> Result<(), Fault>
+    ensures { result ≡ members_fault (types_in types.now) k (type_at types.now.book.now at) [] (type_at types.now.book.now at).members room }
 {
-    let mut rest = member::members(b, at);
+    let b = types.book;
     let mut left = room;
-    let mut done = 0;
-    let mut top = 0;
-    while 0 < rest.left {
-        let p = rest.at;
+    let mut top = 0u64;
+    for (done, p) in member::members(b, at).enumerate() {
         let size = 9 + 4 * member::label_count(b, p);
         if left < size {
-            return Fault::In(k, Reason::RecordLength);
+            return Err(Fault {
+                at: k,
+                reason: Reason::RecordLength,
+            });
         }
         let id = member::id(b, p);
-        let found = member_fault(b, index, at, k, done, top, p, id);
-        if !found.is_right() {
-            return found;
-        }
-        top = above(top, id);
-        rest = member::after(b, rest);
+        member_fault(types, at, k, done, top, p, id)?;
+        top = top.max(u64::from(id) + 1);
         left -= size;
-        done += 1;
     }
-    if 0 < left {
-        return Fault::In(k, Reason::RecordLength);
-    }
-    Fault::Nothing
+    unless(left == 0, k, Reason::RecordLength)
 }
 
 // Whether the member at p, whose 9 bytes are there, keeps the rules of every member but that of its id. Its type, record k, is no enum.
@@ -298,6 +263,7 @@ fn is_structure(b: &[u8], at: usize, k: usize) -> bool
     if !own_plain(b, at) {
         return false;
     }
+    // (d) By hand: `members` asks of each member whether it is there, and here the room that is left says so, with the rule of lengths.
     let mut p = at + 14;
     let mut left = member::member_count(b, at);
     let mut room = size - 14;
@@ -346,63 +312,56 @@ fn is_plain(b: &[u8], at: usize) -> bool
 }
 
 // Record k, at a place.
-fn record_fault(b: &[u8], index: &[u32], at: usize, k: usize) -> Fault
-    ensures { result ≡ record_fault (types_by b.now index.now) k (from b.now at) }
+fn record_fault(types: &Types, at: usize, k: usize) -> Result<(), Fault>
+    ensures { result ≡ record_fault (types_in types.now) k (from types.now.book.now at) }
 {
+    let b = types.book;
     if is_plain(b, at) {
-        return Fault::Nothing;
+        return Ok(());
     }
     if is_structure(b, at, k) {
-        return Fault::Nothing;
+        return Ok(());
     }
     let size = pair_at(b, at, 0);
-    if left_at(b, at) < size {
-        return Fault::In(k, Reason::RecordLength);
-    }
+    unless(size <= left_at(b, at), k, Reason::RecordLength)?;
     if size < 14 {
-        return Fault::In(k, Reason::RecordLength);
+        return Err(Fault {
+            at: k,
+            reason: Reason::RecordLength,
+        });
     }
-    let own = own_fault(b, at, k);
-    if !own.is_right() {
-        return own;
-    }
-    members_fault(b, index, at, k, size - 14)
+    own_fault(b, at, k)?;
+    members_fault(types, at, k, size - 14)
 }
 
 // The records of the index, one after the other from byte 7 on, and nothing after them.
-fn records_fault(b: &[u8], index: &[u32]) -> Fault
-    ensures { result ≡ records_fault (types_by b.now index.now) 0 (length index.now) (from b.now 7) }
+fn records_fault(types: &Types) -> Result<(), Fault>
+    ensures { result ≡ records_fault (types_in types.now) 0 (length types.now.index.now) (from types.now.book.now 7) }
 {
-    let mut k = 0;
+    let b = types.book;
     let mut p = 7;
-    while k < index.len() {
-        let found = record_fault(b, index, p, k);
-        if !found.is_right() {
-            return found;
-        }
+    for k in 0..types.index.len() {
+        record_fault(types, p, k)?;
         p = skip(b, p, pair_at(b, p, 0));
-        k += 1;
     }
-    if 0 < left_at(b, p) {
-        return Fault::In(HEAD, Reason::Head);
-    }
-    Fault::Nothing
+    unless(left_at(b, p) == 0, HEAD, Reason::Head)
 }
 
 // What is wrong with a book. Leaves the places of the types, which it judges by, as `index` does; where the head is not right it writes none.
-pub fn judge_into(b: &[u8], lent: &mut [u32]) -> Fault
+pub fn judge_into(b: &[u8], lent: &mut [u32]) -> Result<(), Fault>
     requires { 64 ≤ length lent.old }
     ensures { (result ≡ fault_of b.now) × (lent.new ≡ pick (head_ok b.now) (indexed b.now lent.old) lent.old) }
 {
-    if !head_ok(b) {
-        return Fault::In(HEAD, Reason::Head);
-    }
+    unless(head_ok(b), HEAD, Reason::Head)?;
     let n = index(b, lent);
-    records_fault(b, &lent[0..n])
+    records_fault(&Types {
+        book: b,
+        index: &lent[0..n],
+    })
 }
 
 // What is wrong with a book: the first broken rule in reading order.
-pub fn fault(b: &[u8]) -> Fault
+pub fn fault(b: &[u8]) -> Result<(), Fault>
     ensures { result ≡ fault_of b.now }
 {
     let mut places = [0u32; 64];
@@ -413,5 +372,5 @@ pub fn fault(b: &[u8]) -> Fault
 pub fn judge(b: &[u8]) -> bool
     ensures { result ≡ book_ok b.now }
 {
-    fault(b).is_right()
+    fault(b).is_ok()
 }

@@ -1,18 +1,39 @@
 // The members of a type: a run of them, and the fields of the one at a place.
 ghost use Rattle.std.specs.Prelude.{◌≡◌, ◌+◌, ◌*◌, ◌<◌, length, get_or, pos};
 ghost use Rattle.book.specs.Types.{byte, optional, default};
-ghost use Rattle.book.specs.Places.{from, member_at, type_at, HeadOf, Skipped, Started, After};
+ghost use Rattle.book.specs.Places.{from, member_at, type_at, HeadOf, Skipped, Started, places_left};
 
 use crate::bytes::{byte_at, byte_there, is_there, pair_at, pair_there, quad_at, quad_there};
 
 // A member has 9 bytes before its labels: the last of them.
 pub const LAST: usize = 8;
 
-// Members still to come: where the next stands, and how many are left.
+// The members of a type that are still to come, each as its place: where the next stands, and how many are left.
 #[derive(Clone, Copy)]
-pub struct Run {
+pub struct Run<'a> {
+    pub book: &'a [u8],
     pub at: usize,
     pub left: usize,
+}
+
+impl Iterator for Run<'_> {
+    ghost use Rattle.std.specs.Iterator.{YieldsFirst, item_count};
+
+    type Item = usize;
+
+    ghost next_gives = { YieldsFirst places_left };
+
+    ghost remaining = { item_count places_left };
+
+    fn next(&mut self) -> Option<usize> {
+        if self.left == 0 {
+            return None;
+        }
+        let p = self.at;
+        self.at = past(self.book, p);
+        self.left -= 1;
+        Some(p)
+    }
 }
 
 // How many members the type at a place has.
@@ -23,16 +44,18 @@ pub fn member_count(b: &[u8], at: usize) -> usize
 }
 
 // All members of the type at a place.
-pub fn members(b: &[u8], at: usize) -> Run
+pub fn members(b: &[u8], at: usize) -> Run<'_>
     ensures { Started b.now at result }
 {
     if is_there(b, at, crate::types::LAST) {
         return Run {
+            book: b,
             at: at + 14,
             left: pair_there(b, at, 12),
         };
     }
     Run {
+        book: b,
         at: b.len(),
         left: pair_at(b, at, 12),
     }
@@ -50,22 +73,6 @@ fn past(b: &[u8], p: usize) -> usize
         }
     }
     end
-}
-
-// Those after the next.
-pub fn after(b: &[u8], ms: Run) -> Run
-    ensures { After b.now ms result }
-{
-    let p = ms.at;
-    let left = ms.left;
-    let q = past(b, p);
-    if left == 0 {
-        return Run { at: q, left: 0 };
-    }
-    Run {
-        at: q,
-        left: left - 1,
-    }
 }
 
 // What is asked of every member that is read in turn.

@@ -8,7 +8,8 @@ use crate::bytes::{byte_at, pair_at, quad_at};
 // A type has 14 bytes before its members: the last of them.
 pub const LAST: usize = 13;
 
-// The kinds that rules of a book name.
+// The kinds that rules of a book name. (d) A book's kind is any byte until it is judged, so no enum; and here it is read as a place is, into a
+// usize, with its bound: `kinds::names` has the same numbers as bytes, and a cast at each test is no plainer.
 pub const BITMASK: usize = 19;
 
 pub const ANNOTATION: usize = 20;

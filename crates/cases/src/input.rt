@@ -9,18 +9,14 @@ use wire::settings::Mode;
 
 // The book's size, the root, and the message's size.
 #[derive(Clone, Copy)]
-pub enum Input {
-    Case(usize, usize, usize),
-    Wrong,
+pub struct Case {
+    pub book: usize,
+    pub root: usize,
+    pub message: usize,
 }
 
-#[derive(Clone, Copy)]
-pub enum Reply {
-    Given(Answer),
-    Wrong,
-}
-
-pub fn input_of(s: &[u8]) -> Input
+#[tactic(auto, using(std::proofs::lemmas::Bool::Decides::nat_tests), unfolding(crate::specs::Input::input_of, book::specs::Places::from))]
+pub fn input_of(s: &[u8]) -> Option<Case>
     ensures { result ≡ input_of s.now }
 {
     let book = quad_at(s, 0, 0) as usize;
@@ -28,29 +24,31 @@ pub fn input_of(s: &[u8]) -> Input
     let message = quad_at(s, book, 2) as usize;
     let size = book + 6 + message;
     if !(ground::in_range(book as u64, 4, 65536) & (message <= 65536) & (s.len() == size)) {
-        return Input::Wrong;
+        return None;
     }
-    Input::Case(book, root, message)
+    Some(Case {
+        book,
+        root,
+        message,
+    })
 }
 
 // Reads the message of a case with its book. Where s is no case, nothing is read.
-pub fn read_case(s: &[u8], table: &mut [u64]) -> Reply
+pub fn read_case(s: &[u8], table: &mut [u64]) -> Option<Answer>
     ensures { Replied (input_of s.now) s.now table.old table.new result }
 {
-    match input_of(s) {
-        Input::Wrong => Reply::Wrong,
-        Input::Case(book, root, message) => {
-            let start = book + 6;
-            let end = start + message;
-            Reply::Given(sinotayam::read(&s[0..book], root, &s[start..end], Mode::Crate, table))
-        }
-    }
+    let case = input_of(s)?;
+    let start = case.book + 6;
+    let end = start + case.message;
+    let message = &s[start..end];
+    Some(sinotayam::read(&s[..case.book], case.root, message, Mode::Crate, table))
 }
 
 // Reads until buf is full, the input ends or a read fails. Tells how many bytes it put at buf's start.
 pub fn read_full(from: &mut impl Read, buf: &mut [u8]) -> usize
     ensures { result ≤ length buf.new }
 {
+    // No for: how many turns there are, the input says.
     let mut done = 0;
     while done < buf.len() {
         match from.read(&mut buf[done..]) {

@@ -32,13 +32,13 @@ fn line(rt: &impl Print, table: &[u64], i: usize) {
 pub fn answer(rt: &impl Print, a: Answer, table: &[u64]) -> usize
     ensures { result ≡ a.rows }
 {
-    let status = a.status;
     let rows = a.rows;
     text(rt, b"answer ");
-    number(rt, status.code() as u64);
+    number(rt, u64::from(a.status.code()));
     text(rt, b" rows ");
     number(rt, rows as u64);
     text(rt, b"\n");
+    // No for: how far it came is what the clause tells.
     let mut i = 0;
     while i < rows {
         line(rt, table, i);
@@ -51,12 +51,10 @@ pub fn answer(rt: &impl Print, a: Answer, table: &[u64]) -> usize
 pub fn told(rt: &impl Print, x: Told) -> usize
     ensures { result ≡ x.need }
 {
-    let position = x.position;
-    let need = x.need;
     text(rt, b"told ");
-    number(rt, position as u64);
+    number(rt, x.position as u64);
     text(rt, b" ");
-    number(rt, need as u64);
+    number(rt, x.need as u64);
     text(rt, b"\n");
-    need
+    x.need
 }

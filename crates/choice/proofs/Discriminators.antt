@@ -15,9 +15,9 @@ use Rattle.table.specs.declared.rows.Row.{Row}
 use Rattle.table.specs.Rows.{row_at}
 use Rattle.table.specs.Code.Rows.{Filled}
 use Rattle.table.proofs.Filling.{filled_first, filled_rest}
-use Rattle.choice.specs.declared.discriminator.Discriminator.{Discriminator}
-use Rattle.choice.specs.declared.discriminator.Discriminator.TheVariants.{Absent, Unfit, Value}
-use Rattle.choice.specs.Discriminator.{discriminator_in, enum_in, discriminator_of}
+use Rattle.std.specs.Prelude.{Ok, Err}
+use Rattle.choice.specs.declared.discriminator.Unsaid.TheVariants.{Absent, Unfit}
+use Rattle.choice.specs.Discriminator.{Discriminator, discriminator_in, enum_in, discriminator_of}
 use Rattle.choice.specs.Code.Discriminator.{discriminator_at}
 
 module _ (r : Row) where
@@ -27,16 +27,16 @@ module _ (r : Row) where
   among_is : fits ≡ among (3 ∷ 4 ∷ 6 ∷ 7 ∷ 12 ∷ 13 ∷ []) r.kind
   among_is = simp (or_assoc, or-false)
 
-  pub in_value : fits ≡ true → (z : ℤ) → z ≡ to_z w32 (r.a % 2 ^ 32) → Value z ≡ discriminator_in r
+  pub in_value : fits ≡ true → (z : ℤ) → z ≡ to_z w32 (r.a % 2 ^ 32) → Ok z ≡ discriminator_in r
   unfolding discriminator_in
   in_value e z f = rw (sym among_is ∙ e, f)
 
-  pub in_unfit : fits ≡ false → Unfit ≡ discriminator_in r
+  pub in_unfit : fits ≡ false → Err Unfit ≡ discriminator_in r
   unfolding discriminator_in
   in_unfit e = rw (sym among_is ∙ e)
 
 module _ (t : List ℕ) (n m : ℕ) where
-  pub at_absent : m ≤ n → Absent ≡ discriminator_at t n m
+  pub at_absent : m ≤ n → Err Absent ≡ discriminator_at t n m
   unfolding discriminator_at
   at_absent h = rw (le-leb m n h)
 
@@ -45,7 +45,7 @@ module _ (t : List ℕ) (n m : ℕ) where
     unfolding discriminator_at
     at_other k v e = rw (lt-leb m n h, ← is, ne_eqb r.kind 21 k) e
 
-    pub at_alone : r.kind ≡ 21 → m - n ≡ 1 → Unfit ≡ discriminator_at t n m
+    pub at_alone : r.kind ≡ 21 → m - n ≡ 1 → Err Unfit ≡ discriminator_at t n m
     unfolding discriminator_at
     at_alone k e = rw (lt-leb m n h, ← is, eq-eqb r.kind 21 k, eq-eqb (m - n) 1 e)
 

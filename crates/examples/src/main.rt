@@ -171,21 +171,18 @@ fn member_neighbours(rt: &impl Print) {
 
 // Example 1's book cut after n bytes: as it is, and with its length put right.
 fn cut(rt: &impl Print, n: usize) {
-    if 44 <= n {
+    if EXAMPLE1.len() <= n {
         return;
     }
-    let whole = EXAMPLE1;
-    show(rt, b"example 1 cut", &whole[0..n]);
+    show(rt, b"example 1 cut", &EXAMPLE1[..n]);
     let mut b = EXAMPLE1;
     b[3] = n as u8;
-    show(rt, b"example 1 cut, its length right", &b[0..n]);
+    show(rt, b"example 1 cut, its length right", &b[..n]);
 }
 
 fn cuts(rt: &impl Print) {
-    let mut n = 0;
-    while n < 44 {
+    for n in 0..EXAMPLE1.len() {
         cut(rt, n);
-        n += 1;
     }
 }
 
@@ -241,8 +238,9 @@ fn show(rt: &impl Print, name: &[u8], b: &[u8]) {
     let _ = rt.write_all(name);
     if book::judge::judge(b) {
         let _ = rt.write_all(b": right");
-    } else {
-        show_fault(rt, book::judge::fault(b));
+    }
+    if let Err(found) = book::judge::fault(b) {
+        show_fault(rt, found);
     }
     if b.len() <= FEW {
         let _ = rt.write_all(b" ");
@@ -252,17 +250,10 @@ fn show(rt: &impl Print, name: &[u8], b: &[u8]) {
 }
 
 fn show_fault(rt: &impl Print, found: Fault) {
-    match found {
-        Fault::Nothing => {
-            let _ = rt.write_all(b": nothing");
-        }
-        Fault::In(k, why) => {
-            let _ = rt.write_all(b": record ");
-            let _ = rt.print(k as u64);
-            let _ = rt.write_all(b" number ");
-            let _ = rt.print(ground::wide(why.number()));
-        }
-    }
+    let _ = rt.write_all(b": record ");
+    let _ = rt.print(found.at as u64);
+    let _ = rt.write_all(b" number ");
+    let _ = rt.print(u64::from(found.number()));
 }
 
 // A book of no more bytes is shown.
@@ -271,43 +262,29 @@ const FEW: usize = 128;
 const DIGITS: [u8; 16] = *b"0123456789abcdef";
 
 fn digit(x: u8) -> u8 {
-    let i = (x % 16) as usize;
-    DIGITS[i]
+    DIGITS[(x % 16) as usize]
 }
 
 fn show_bytes(rt: &impl Print, b: &[u8]) {
-    let mut i = 0;
-    while i < b.len() {
-        let x = b[i];
-        let two = [digit(x / 16), digit(x)];
-        let _ = rt.write_all(&two);
-        i += 1;
+    for x in b {
+        let _ = rt.write_all(&[digit(*x / 16), digit(*x)]);
     }
 }
 
 fn put(b: &mut [u8], at: usize, x: u8) {
-    if at < b.len() {
-        b[at] = x;
-    }
-}
-
-fn copy(b: &mut [u8], s: &[u8]) {
-    let mut i = 0;
-    while i < s.len() {
-        put(b, i, s[i]);
-        i += 1;
+    if let Some(there) = b.get_mut(at) {
+        *there = x;
     }
 }
 
 // The book s with x at i and y at j: the books that differ from a right one in a byte or two.
 fn changed_twice(rt: &impl Print, name: &[u8], s: &[u8], i: usize, x: u8, j: usize, y: u8) {
     let mut b = [0u8; FEW];
-    if s.len() <= FEW {
-        copy(&mut b, s);
-        put(&mut b, i, x);
-        put(&mut b, j, y);
-        let n = s.len();
-        show(rt, name, &b[0..n]);
+    if let Some(part) = b.get_mut(..s.len()) {
+        part.copy_from_slice(s);
+        put(part, i, x);
+        put(part, j, y);
+        show(rt, name, part);
     }
 }
 
@@ -354,71 +331,60 @@ fn put_member(b: &mut [u8], at: usize, id: u32, labels: u8) -> usize {
 // n records of INT32.
 fn put_types(b: &mut [u8], at: usize, n: u8) -> usize {
     let mut p = at;
-    let mut i = 0;
-    while i < n {
+    for _ in 0..n {
         p = put_type(b, p, 14, 4, 0);
-        i += 1;
     }
     p
 }
 
 fn least(x: u16, y: u8) -> u8 {
-    if x < (y as u16) { x as u8 } else { y }
+    x.min(u16::from(y)) as u8
 }
 
 // `count` members with `labels` labels in all, the first members `most` each.
 fn put_members(b: &mut [u8], at: usize, count: u8, labels: u16, most: u8) -> usize {
     let mut p = at;
     let mut left = labels;
-    let mut i = 0;
-    while i < count {
+    for i in 0..count {
         let n = least(left, most);
-        p = put_member(b, p, i as u32, n);
-        left = rest(left, n);
-        i += 1;
+        p = put_member(b, p, u32::from(i), n);
+        left = left.saturating_sub(u16::from(n));
     }
     p
-}
-
-fn rest(x: u16, y: u8) -> u16 {
-    if x < (y as u16) { 0 } else { x - (y as u16) }
 }
 
 // A structure's bytes.
 fn size_of(members: u8, labels: u16) -> u32
     ensures { result ≡ 14 + 9 * members + 4 * labels }
 {
-    14 + 9 * (members as u32) + 4 * (labels as u32)
+    14 + 9 * u32::from(members) + 4 * u32::from(labels)
 }
 
 fn put_structure(b: &mut [u8], at: usize, members: u8, labels: u16, most: u8) -> usize {
-    let p = put_type(b, at, size_of(members, labels), 22, members as u32);
+    let p = put_type(b, at, size_of(members, labels), 22, u32::from(members));
     put_members(b, p, members, labels, most)
 }
 
 // n structures of 64 members with 16 labels each, 4,686 bytes.
 fn put_full(b: &mut [u8], at: usize, n: u8) -> usize {
     let mut p = at;
-    let mut i = 0;
-    while i < n {
+    for _ in 0..n {
         p = put_structure(b, p, 64, 1024, 16);
-        i += 1;
     }
     p
 }
 
 fn show_part(rt: &impl Print, name: &[u8], b: &[u8], n: u32) {
-    let end = n as usize;
-    if end <= b.len() {
-        show(rt, name, &b[0..end]);
+    if let Some(part) = b.get(..n as usize) {
+        show(rt, name, part);
     }
 }
 
 // A book of n types INT32.
 fn types(rt: &impl Print, name: &[u8], n: u8) {
     let mut b = [0u8; 1024];
-    let size = 7 + 14 * (n as u32);
-    let p = put_head(&mut b, size, n as u32);
+    let size = 7 + 14 * u32::from(n);
+    let p = put_head(&mut b, size, u32::from(n));
     put_types(&mut b, p, n);
     show_part(rt, name, &b, size);
 }
@@ -426,8 +392,8 @@ fn types(rt: &impl Print, name: &[u8], n: u8) {
 // A book of INT32, `full` structures of 4,686 bytes, and one of `members` members with `labels` labels, at most `most` each.
 fn structures(rt: &impl Print, name: &[u8], full: u8, members: u8, labels: u16, most: u8) {
     let mut b = [0u8; 65537];
-    let size = 21 + 4686 * (full as u32) + size_of(members, labels);
-    let p = put_head(&mut b, size, 2 + (full as u32));
+    let size = 21 + 4686 * u32::from(full) + size_of(members, labels);
+    let p = put_head(&mut b, size, 2 + u32::from(full));
     let q = put_types(&mut b, p, 1);
     let r = put_full(&mut b, q, full);
     put_structure(&mut b, r, members, labels, most);

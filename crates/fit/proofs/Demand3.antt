@@ -13,9 +13,8 @@ use Rattle.wire.specs.declared.settings.Settings.{Settings}
 use Rattle.wire.specs.Place.{cursor_at}
 use Rattle.book.specs.Types.{BookType, type_count, types_of}
 use Rattle.book.specs.Rules.{book_ok}
-use Rattle.book.specs.declared.fault.Fault.{Fault}
-use Rattle.book.specs.declared.fault.Fault.TheVariants.{Nothing, In}
-use Rattle.book.specs.Fault.{fault_number, fault_of}
+use Rattle.std.specs.Prelude.{Ok, Err}
+use Rattle.book.specs.Fault.{Verdict, fault_number, fault_of}
 use Rattle.book.proofs.Faults.{reason_told, told_nothing}
 use Rattle.table.specs.Outcome.{Outcome, number_of, refusal_number, rows_of}
 use Rattle.reader.specs.Nested.{reading}
@@ -43,9 +42,9 @@ check_says book root onlyXcdr2 =
     unfit good (ltb-true root (type_count book) low) (λ p. apart (sym e ∙ passes_fits (clauses_for onlyXcdr2) (types_of book) (links_down book good) root p))))
     (λ out. bad_root good (ltb-false root (type_count book) out))) (λ bad. by_fault_law (fault_of book) refl bad)
   where
-    by_fault_law : (f : Fault) → fault_of book ≡ f → book_ok book ≡ false → Checked book root onlyXcdr2 (fault_number f)
-    by_fault_law Nothing e bad = absurd (apart (sym bad ∙ told_nothing book e))
-    by_fault_law (In k why) e bad = bad_book e
+    by_fault_law : (f : Verdict) → fault_of book ≡ f → book_ok book ≡ false → Checked book root onlyXcdr2 (fault_number f)
+    by_fault_law (Ok u) e bad = absurd (apart (sym bad ∙ told_nothing book e))
+    by_fault_law (Err f) e bad = bad_book {k = f.at} {why = f.reason} e
 
 pub passing : {book : List ℕ} {root n : ℕ} {onlyXcdr2 : Bool} → Checked book root onlyXcdr2 n → n ≡ 0 → (book_ok book ≡ true) × Passes (clauses_for onlyXcdr2) (types_of book) root
 passing (fit good low p) e = (good, p)

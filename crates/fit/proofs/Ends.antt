@@ -1,4 +1,6 @@
 -- What an outcome may be, and one law for each way in which outcomes are put together. Assumes nothing.
+use Rattle.std.specs.Prelude.{Err, Ok}
+use Rattle.wire.specs.declared.cursor.Unread.TheVariants as unread
 use Prim.Native.Nat.{ℕ, zero, suc}
 use mathlib.Core.Path.{◌≡◌, refl}
 use mathlib.Core.Bool.{Bool, true, false}
@@ -7,12 +9,9 @@ use lib.ListN.{length}
 use Rattle.ground.specs.Choice.{pick}
 use Rattle.wire.specs.declared.cursor.Cursor.{Cursor}
 use Rattle.wire.specs.declared.cursor.Shortage.{Shortage}
-use Rattle.wire.specs.declared.cursor.Place.{Place}
-use Rattle.wire.specs.declared.cursor.Place.TheVariants as place
-use Rattle.wire.specs.declared.number.Number.{Number}
-use Rattle.wire.specs.declared.number.Number.TheVariants as number
-use Rattle.wire.specs.declared.dheader.Contents.{Contents}
-use Rattle.wire.specs.declared.dheader.Contents.TheVariants as contents
+use Rattle.wire.specs.Place.{Place}
+use Rattle.wire.specs.Number.{Number}
+use Rattle.wire.specs.Dheader.{Contents}
 use Rattle.wire.specs.Dheader.{after_contents}
 use Rattle.wire.specs.Place.{after_move}
 use Rattle.wire.specs.Number.{after_number}
@@ -75,20 +74,20 @@ module _ {P : Refusal → Type 0} where
   -- what follows a move, contents, and a number
   pub ends_move : {R : List Row → Type 0} (p : Place) (next : Cursor → Outcome) → ((c : Cursor) → Ends R P (next c)) → Ends R P (after_move short p next)
   unfolding after_move
-  ends_move (place.Short x) next h = wanting
-  ends_move (place.At c) next h = h c
+  ends_move (Err x) next h = wanting
+  ends_move (Ok c) next h = h c
 
   -- contents that end past the data are refused
   pub ends_contents : {R : List Row → Type 0} (k : Refusal) → P k → (g : Contents) (next : Cursor → ℕ → Outcome) → ((c : Cursor) (end : ℕ) → Ends R P (next c end)) → Ends R P (after_contents short (refused k) g next)
   unfolding after_contents
-  ends_contents k p (contents.Short x) next h = wanting
-  ends_contents k p contents.Past next h = broken p
-  ends_contents k p (contents.Between c end) next h = h c end
+  ends_contents k p (Err (unread.Short x)) next h = wanting
+  ends_contents k p (Err unread.Bad) next h = broken p
+  ends_contents k p (Ok (c, end)) next h = h c end
 
-  pub ends_number : {R : List Row → Type 0} (n : Number) (next : ℕ → Cursor → Outcome) → ((v : ℕ) (c : Cursor) → n ≡ number.Got v c → Ends R P (next v c)) → Ends R P (after_number short n next)
+  pub ends_number : {R : List Row → Type 0} (n : Number) (next : ℕ → Cursor → Outcome) → ((v : ℕ) (c : Cursor) → n ≡ Ok (v, c) → Ends R P (next v c)) → Ends R P (after_number short n next)
   unfolding after_number
-  ends_number (number.Short x) next h = wanting
-  ends_number (number.Got v c) next h = h v c refl
+  ends_number (Err x) next h = wanting
+  ends_number (Ok (v, c)) next h = h v c refl
 
 -- by the test of a choice, for whatever is said of what is chosen
 module _ {A : Type 0} (F : A → Type 0) {x y : A} where

@@ -1,5 +1,7 @@
 -- ORDER 3, WHAT IT IS FOR: in a type that passes no header fills two columns, and each member can be found. The statements cite only definitions of
 -- `specs/`. Assumes nothing.
+use Rattle.std.specs.declared.ops.ControlFlow.TheVariants.{Break}
+use Rattle.std.specs.Prelude.{Ok, Some}
 use Prim.Native.Nat.{ℕ, zero, suc, ◌≤◌, ◌<◌}
 use mathlib.Core.Path.{◌≡◌, refl, sym, ap, ◌∙◌}
 use mathlib.Core.Logic.{⊎_elim}
@@ -19,9 +21,7 @@ use Rattle.book.specs.Types.{BookType, Member, types_of, no_type, type_no}
 use Rattle.book.specs.Rules.{book_ok}
 use Rattle.book.proofs.Good.{type_good, ids_differ}
 use Rattle.lookup.specs.Member.{asked_for}
-use Rattle.lookup.specs.Search.{past_value}
-use Rattle.lookup.specs.declared.search.Seek.TheVariants.{Found}
-use Rattle.lookup.specs.declared.search.Turn.TheVariants.{Done}
+use Rattle.lookup.specs.Search.{past_value, on_to}
 use Rattle.lookup.specs.Xcdr1 as xcdr1
 use Rattle.lookup.specs.Xcdr2 as xcdr2
 use Rattle.fit.specs.Fit.{Reach, meets}
@@ -35,12 +35,12 @@ use Rattle.fit.proofs.Demand3.{check_says, passing}
 
 module _ (s : List ℕ) (set : Settings) (wanted word n : ℕ) (c : Cursor) where
   pub xcdr1_asks : xcdr1.verdict s set wanted (xcdr1.id_of word) n c
-      ≡ pick (xcdr1.is_end (xcdr1.id_of word) n) (Done (xcdr1.ended wanted c)) (pick (eqb (header_id Xcdr1 word) (asked_for Xcdr1 wanted)) (Done (Found n c)) (past_value s set c n))
+      ≡ pick (xcdr1.is_end (xcdr1.id_of word) n) (Ok (Break (xcdr1.ended wanted c))) (pick (eqb (header_id Xcdr1 word) (asked_for Xcdr1 wanted)) (Ok (Break (Some (n, c)))) (on_to (past_value s set c n)))
   unfolding xcdr1.verdict header_id asked_for
   xcdr1_asks = refl
 
   pub xcdr2_asks : xcdr2.verdict s set wanted word n c
-      ≡ pick (eqb (header_id Xcdr2 word) (asked_for Xcdr2 wanted)) (Done (Found (xcdr2.length_from set.mode (xcdr2.lc_of word) n) (xcdr2.value_from set.mode (xcdr2.lc_of word) c))) (past_value s set c n)
+      ≡ pick (eqb (header_id Xcdr2 word) (asked_for Xcdr2 wanted)) (Ok (Break (Some (xcdr2.length_from set.mode (xcdr2.lc_of word) n, xcdr2.value_from set.mode (xcdr2.lc_of word) c)))) (on_to (past_value s set c n))
   unfolding xcdr2.verdict header_id asked_for
   xcdr2_asks = refl
 

@@ -1,31 +1,21 @@
 -- Laws of the measure of a record, and of all of them: one for each way that the code goes. Assumes nothing.
 use Prim.Native.Nat.{ℕ, zero, suc, ◌+◌, ◌-◌, ◌≤◌, ◌<◌, max}
-use mathlib.Core.Path.{◌≡◌, refl, sym, ◌∙◌}
+use mathlib.Core.Path.{◌≡◌, refl, ◌∙◌}
 use mathlib.Core.Bool.{Bool, true, false, not, ◌||◌}
-use mathlib.Core.List.{List}
+use mathlib.Core.List.{List, [], ◌∷◌}
 use native.Mathlib.Omega.{arith}
 use native.Mathlib.Numerals.{add-one}
 use lib.Dec.{eqb}
-use lib.ListN.{length, get_or, take, set, length-set, get_or-eq_default}
-use lib.Seq.{drop-cons, take-suc-set}
+use lib.ListN.{length, get_or, take, set, length-set}
+use lib.Seq.{take-suc-set}
 use borrow.Author.Tests.{eq-eqb, ne_eqb, not-true, not-false, lt-ltb, le-ltb}
 use Rattle.kinds.specs.Kinds.{opens}
 use Rattle.book.specs.declared.member.Run.{Run}
 use Rattle.book.specs.Types.{BookType, type_no}
-use Rattle.book.specs.Places.{member_at, type_at, types_by, listed, Started, After, PlaceOf}
-use Rattle.book.proofs.Places.{run_more, run_none}
+use Rattle.book.specs.Places.{member_at, type_at, types_by, places_left, listed, Started, PlaceOf}
+use Rattle.book.proofs.Places.{listed_none, listed_some}
 use Rattle.fit.specs.Fit.{Clause, member_types, links_of, meets}
 use Rattle.fit.specs.Code.Check.{too_long, longest_from, with_own, chain_of, chains_of, Measured}
-
--- the measure of a lower type
-pub lower_none : (lower : List ℕ) (k : ℕ) → length lower ≤ k → 17 ≡ get_or lower k too_long
-lower_none lower k h = sym (get_or-eq_default lower too_long {n = k} h)
-
-pub lower_some : (lower : List ℕ) (k r : ℕ) → k < length lower → r ≡ get_or lower k 0 → r ≡ get_or lower k too_long
-lower_some lower k r h e =
-    let a = drop-cons lower k 0 h in
-    let b = drop-cons lower k too_long h in
-    cc
 
 -- the longest chain below a type
 module _ (lower b : List ℕ) (at kind : ℕ) (is : kind ≡ (type_at b at).kind) where
@@ -42,13 +32,14 @@ module _ (lower b : List ℕ) (at kind : ℕ) (is : kind ≡ (type_at b at).kind
   longest_start ms l n s = rw (← is, l, ne_eqb kind 21 n, s.is)
 
 module _ (lower b : List ℕ) (m whole : ℕ) (ms : Run) (inv : longest_from lower m (member_types (listed b ms)) ≡ whole) where
-  pub longest_turn : (k x y : ℕ) (r : Run) → 0 < ms.left → k ≡ (member_at b ms.at).type → x ≡ get_or lower k too_long → y ≡ max m x → After b ms r → longest_from lower y (member_types (listed b r)) ≡ whole
+  pub longest_turn : (p : ℕ) (rest : Run) → places_left ms ≡ p ∷ places_left rest → (k x y : ℕ) → k ≡ (member_at b p).type → x ≡ get_or lower k too_long → y ≡ max m x
+      → longest_from lower y (member_types (listed b rest)) ≡ whole
   unfolding longest_from member_types
-  longest_turn k x y r h e f g a = rw (g, f, e, a.is) (rw (run_more b ms h) at inv)
+  longest_turn p rest h k x y e f g = rw (g, f, e) (rw (listed_some b ms p rest h) at inv)
 
-  pub longest_end : ms.left ≤ 0 → m ≡ whole
+  pub longest_end : places_left ms ≡ [] → m ≡ whole
   unfolding longest_from member_types
-  longest_end h = rw (run_none b ms h) at inv
+  longest_end h = rw (listed_none b ms h) at inv
 
 pub ruleset longest_laws = (longest_list, longest_enum, longest_start, longest_turn, longest_end)
 

@@ -1,5 +1,6 @@
 -- HOW MANY ROWS A READING NEEDS: one law for each rule, in its order, over one hypothesis about how values are opened; then the depth. No law asks for a
 -- kind, and none for the mode. Assumes nothing.
+use Rattle.wire.specs.declared.cursor.Unread.TheVariants as unread
 use Prim.Native.Nat.{ℕ, zero, suc, ◌+◌}
 use mathlib.Core.Path.{refl}
 use mathlib.Core.Bool.{Bool, true, false}
@@ -9,35 +10,23 @@ use lib.Dec.{eqb}
 use lib.ListN.{length}
 use Rattle.ground.specs.Choice.{among}
 use Rattle.wire.specs.declared.cursor.Cursor.{Cursor}
-use Rattle.wire.specs.declared.cursor.Place.{Place}
-use Rattle.wire.specs.declared.cursor.Place.TheVariants as place
 use Rattle.wire.specs.declared.settings.Settings.{Settings}
 use Rattle.wire.specs.declared.settings.Version.{Version}
 use Rattle.wire.specs.declared.settings.Version.TheVariants.{Xcdr1, Xcdr2}
-use Rattle.wire.specs.declared.number.Number.{Number}
-use Rattle.wire.specs.declared.number.Number.TheVariants as number
-use Rattle.wire.specs.declared.number.Float128.{Float128}
-use Rattle.wire.specs.declared.number.Float128.TheVariants as float128
-use Rattle.wire.specs.declared.number.Boolean.{Boolean}
-use Rattle.wire.specs.declared.number.Boolean.TheVariants as boolean
-use Rattle.wire.specs.Place.{seek_to}
-use Rattle.wire.specs.Number.{read_number, read_float128, read_boolean}
+use Rattle.wire.specs.Place.{Place, seek_to}
+use Rattle.wire.specs.Number.{Number, Float128, Boolean, read_number, read_float128, read_boolean}
 use Rattle.wire.specs.Dheader.{contents_at}
 use Rattle.wire.specs.Ends.{cut_at}
 use Rattle.kinds.specs.Kinds.{align_of, is_primitive, opens, unsupported_member, unsupported_element}
-use Rattle.text.specs.declared.string.Text.{Text}
-use Rattle.text.specs.declared.string.Text.TheVariants as text
-use Rattle.text.specs.Text.{string_type, wstring_type}
+use Rattle.text.specs.Text.{Text, string_type, wstring_type}
 use Rattle.book.specs.Types.{BookType, Member, optional, type_no}
 use Rattle.book.specs.Asked.{read_as, is_sequence, is_mutable, is_structure}
-use Rattle.choice.specs.Discriminator.{discriminator_of}
+use Rattle.choice.specs.Discriminator.{Discriminator, discriminator_of}
 use Rattle.choice.specs.Select.{selected_of}
-use Rattle.choice.specs.declared.discriminator.Discriminator.{Discriminator}
-use Rattle.choice.specs.declared.discriminator.Discriminator.TheVariants as discriminator
-use Rattle.lookup.specs.Member.{locate}
+use Rattle.choice.specs.declared.discriminator.Unsaid.TheVariants as unsaid
+use Rattle.std.specs.Prelude.{Ok, Err, None, Some}
 use Rattle.lookup.specs.Xcdr1.{seek_to_sentinel}
-use Rattle.lookup.specs.declared.member.Located.{Located}
-use Rattle.lookup.specs.declared.member.Located.TheVariants as located
+use Rattle.lookup.specs.Member.{Located, locate}
 use Rattle.table.specs.declared.rows.Row.{Row}
 use Rattle.table.specs.declared.out.Refusal.TheVariants.{InvalidData, InvalidType, Unsupported, TooDeep, NoDiscriminator}
 use Rattle.table.specs.Outcome.{Outcome, read, short, refused}
@@ -60,30 +49,30 @@ needs_rowed c r = needs_room (needs_read c (r ∷ []))
 
 needs_boolean : (id : ℕ) (v : Boolean) → Needs (λ k. on_boolean id k v)
 unfolding on_boolean
-needs_boolean id (boolean.Got v c) = needs_rowed c _
-needs_boolean id boolean.Bad = needs_refused InvalidData bad_data
-needs_boolean id (boolean.Short x) = needs_short x
+needs_boolean id (Ok (v, c)) = needs_rowed c _
+needs_boolean id (Err unread.Bad) = needs_refused InvalidData bad_data
+needs_boolean id (Err (unread.Short x)) = needs_short x
 
 needs_float128 : (id : ℕ) (v : Float128) → Needs (λ k. on_float128 id k v)
 unfolding on_float128
-needs_float128 id (float128.Got low high c) = needs_rowed c _
-needs_float128 id (float128.Short x) = needs_short x
+needs_float128 id (Ok (low, high, c)) = needs_rowed c _
+needs_float128 id (Err x) = needs_short x
 
 needs_word : (kind id : ℕ) (n : Number) → Needs (λ k. on_number kind id k n)
 unfolding on_number
-needs_word kind id (number.Got v c) = needs_rowed c _
-needs_word kind id (number.Short x) = needs_short x
+needs_word kind id (Ok (v, c)) = needs_rowed c _
+needs_word kind id (Err x) = needs_short x
 
 needs_text : (kind id : ℕ) (v : Text) → Needs (λ k. on_text kind id k v)
 unfolding on_text
-needs_text kind id (text.Got start size c) = needs_rowed c _
-needs_text kind id text.Bad = needs_refused InvalidData bad_data
-needs_text kind id (text.Short x) = needs_short x
+needs_text kind id (Ok (start, size, c)) = needs_rowed c _
+needs_text kind id (Err unread.Bad) = needs_refused InvalidData bad_data
+needs_text kind id (Err (unread.Short x)) = needs_short x
 
 needs_block : (p : Place) (o : ℕ → Outcome) → Needs o → Needs (λ k. on_block p (o k))
 unfolding on_block
-needs_block (place.Short x) o h = needs_short x
-needs_block (place.At d) o h = h
+needs_block (Err x) o h = needs_short x
+needs_block (Ok d) o h = h
 
 module _ (s : List ℕ) (set : Settings) where
   needs_scalar : (kind id : ℕ) (c : Cursor) → Needs (λ k. scalar_of s set kind id c k)
@@ -189,9 +178,9 @@ module _ (types : List BookType) (set : Settings) (nest : Nest) (below : (s : Li
   module _ (s : List ℕ) where
     needs_located : (m : Member) (l : Located) → Needs (λ k. on_located types s set nest m k l)
     unfolding on_located found_of found_value
-    needs_located m (located.Short x) = needs_short x
-    needs_located m (located.Absent back) = needs_read back []
-    needs_located m (located.Found length c back) =
+    needs_located m (Err x) = needs_short x
+    needs_located m (Ok (None, back)) = needs_read back []
+    needs_located m (Ok (Some (length, c), back)) =
         needs_back back (needs_found_by (cut_at set s (c.pos + length)) (by_length set.version set.mode types (type_no types m.type)) m length c)
 
     needs_mmember : (m : Member) (c : Cursor) → Needs (λ k. mmember_of types s set nest m c k)
@@ -200,10 +189,10 @@ module _ (types : List BookType) (set : Settings) (nest : Nest) (below : (s : Li
 
     needs_present : (m : Member) (b : Boolean) → Needs (λ k. on_present types s set nest m k b)
     unfolding on_present
-    needs_present m (boolean.Short x) = needs_short x
-    needs_present m boolean.Bad = needs_refused InvalidData bad_data
-    needs_present m (boolean.Got false c) = needs_read c []
-    needs_present m (boolean.Got true c) = needs_value s m.type m.id c
+    needs_present m (Err (unread.Short x)) = needs_short x
+    needs_present m (Err unread.Bad) = needs_refused InvalidData bad_data
+    needs_present m (Ok (false, c)) = needs_read c []
+    needs_present m (Ok (true, c)) = needs_value s m.type m.id c
 
     needs_optional : (v : Version) (m : Member) (c : Cursor) → Needs (λ k. optional_by types s set nest v m c k)
     unfolding optional_by
@@ -251,9 +240,9 @@ module _ (types : List BookType) (set : Settings) (nest : Nest) (below : (s : Li
 
     needs_by_discriminator : (mutable : Bool) (disc : Member) (ms : List Member) (c : Cursor) (d : Discriminator) → Needs (λ k. on_discriminator types s set nest mutable disc ms c k d)
     unfolding on_discriminator
-    needs_by_discriminator mutable disc ms c discriminator.Absent = needs_refused NoDiscriminator no_discriminator
-    needs_by_discriminator mutable disc ms c discriminator.Unfit = needs_refused InvalidType bad_type
-    needs_by_discriminator mutable disc ms c (discriminator.Value d) = needs_selected mutable (selected_of types disc ms d) c
+    needs_by_discriminator mutable disc ms c (Err unsaid.Absent) = needs_refused NoDiscriminator no_discriminator
+    needs_by_discriminator mutable disc ms c (Err unsaid.Unfit) = needs_refused InvalidType bad_type
+    needs_by_discriminator mutable disc ms c (Ok d) = needs_selected mutable (selected_of types disc ms d) c
 
     needs_chosen : (mutable : Bool) (disc : Member) (ms : List Member) (o : ℕ → Outcome) → Needs o → Needs (λ k. chosen_of types s set nest mutable disc ms k (o k))
     unfolding chosen_of

@@ -1,4 +1,5 @@
 -- A number that is read from bytes has a word in the range of its kind. Assumes nothing.
+use Rattle.std.specs.Prelude.{Err, Ok}
 use Prim.Native.Nat.{ℕ, zero, suc, ◌+◌, ◌-◌, ◌*◌, ◌/◌, ◌%◌, ◌^◌, ◌≤◌, ◌<◌}
 use mathlib.Core.Path.{◌≡◌, refl}
 use mathlib.Core.Bool.{Bool, true, false, not, ◌||◌}
@@ -14,10 +15,8 @@ use Rattle.wire.specs.declared.settings.ByteOrder.{ByteOrder}
 use Rattle.wire.specs.declared.settings.ByteOrder.TheVariants.{BigEndian, LittleEndian}
 use Rattle.wire.specs.declared.settings.Settings.{Settings}
 use Rattle.wire.specs.declared.cursor.Cursor.{Cursor}
-use Rattle.wire.specs.declared.cursor.Place.{Place}
-use Rattle.wire.specs.declared.cursor.Place.TheVariants as place
-use Rattle.wire.specs.declared.number.Number.TheVariants as number
-use Rattle.wire.specs.Place.{seek_to, align_to}
+use Rattle.wire.specs.Place.{Place, seek_to, align_to}
+use Rattle.wire.proofs.Numbers.{got_inv}
 use Rattle.wire.specs.Number.{number_at, on_bytes, number_here, on_aligned, read_number}
 use Rattle.wire.specs.Signed.{extended}
 use Rattle.kinds.specs.Kinds.{align_of, stored_of, is_primitive, is_signed}
@@ -41,19 +40,19 @@ module _ (s : List ℕ) (bytes : AreBytes s) where
       let e : k + suc w ≡ suc k + w = omega arith in
       rw e (below LittleEndian w (suc k) (v * 256 + get_or s (p + w) 0) p (omega (arith, bytes (p + w))))
 
-  pub number_below : (set : Settings) (c : Cursor) (w v : ℕ) (d : Cursor) → read_number s set c w ≡ number.Got v d → v < 256 ^ w
+  pub number_below : (set : Settings) (c : Cursor) (w v : ℕ) (d : Cursor) → read_number s set c w ≡ Ok (v, d) → v < 256 ^ w
   unfolding read_number on_aligned number_here on_bytes
   number_below set c w v d = aligned (align_to s set.version c w)
     where
-      got : (p : ℕ) (q : Place) → on_bytes s set.order p w q ≡ number.Got v d → v < 256 ^ w
-      got p (place.Short x) e = absurd (let z : ◌≡◌ {A = ℕ} 0 1 = cc in omega arith)
-      got p (place.At y) e =
-          let z : number_at set.order 0 s p w ≡ v = cc in
+      got : (p : ℕ) (q : Place) → on_bytes s set.order p w q ≡ Ok (v, d) → v < 256 ^ w
+      got p (Err x) e = absurd (let z : ◌≡◌ {A = ℕ} 0 1 = cc in omega arith)
+      got p (Ok y) e =
+          let z : number_at set.order 0 s p w ≡ v = (got_inv e).0 in
           rw (zero-add, z) at (below set.order w 0 0 p (lit< tt))
 
-      aligned : (q : Place) → on_aligned s set.order w q ≡ number.Got v d → v < 256 ^ w
-      aligned (place.Short x) e = absurd (let z : ◌≡◌ {A = ℕ} 0 1 = cc in omega arith)
-      aligned (place.At y) e = got y.pos (seek_to s y w) e
+      aligned : (q : Place) → on_aligned s set.order w q ≡ Ok (v, d) → v < 256 ^ w
+      aligned (Err x) e = absurd (let z : ◌≡◌ {A = ℕ} 0 1 = cc in omega arith)
+      aligned (Ok y) e = got y.pos (seek_to s y w) e
 
 -- ---- the word of a number
 

@@ -1,5 +1,7 @@
 -- How many rows an outcome needs: with less room the table is full, and with as much or more the outcome is one and the same. One law for each way in
 -- which outcomes are put together. Assumes nothing.
+use Rattle.std.specs.Prelude.{Err, Ok}
+use Rattle.wire.specs.declared.cursor.Unread.TheVariants as unread
 use Prim.Native.Nat.{ℕ, zero, suc, ◌+◌, ◌-◌, ◌≤◌, ◌<◌}
 use mathlib.Core.Path.{◌≡◌, refl, ap, ◌∙◌}
 use mathlib.Core.Logic.{inl, inr, ◌⊎◌, ⊎_elim}
@@ -12,10 +14,8 @@ use borrow.Author.Tests.{ltb-true, ltb-false}
 use Rattle.ground.specs.Choice.{pick}
 use Rattle.wire.specs.declared.cursor.Cursor.{Cursor}
 use Rattle.wire.specs.declared.cursor.Shortage.{Shortage}
-use Rattle.wire.specs.declared.number.Number.{Number}
-use Rattle.wire.specs.declared.number.Number.TheVariants as number
-use Rattle.wire.specs.declared.dheader.Contents.{Contents}
-use Rattle.wire.specs.declared.dheader.Contents.TheVariants as contents
+use Rattle.wire.specs.Number.{Number}
+use Rattle.wire.specs.Dheader.{Contents}
 use Rattle.wire.specs.Dheader.{after_contents}
 use Rattle.wire.specs.Number.{after_number}
 use Rattle.table.specs.declared.rows.Row.{Row}
@@ -163,11 +163,11 @@ needs_ending o rest more s = needs_and o (λ d k. rest d) (λ d. needs_none (res
 -- what follows a number, and contents
 pub needs_number : (n : Number) (next : ℕ → Cursor → ℕ → Outcome) → ((v : ℕ) (c : Cursor) → Needs (next v c)) → Needs (λ k. after_number short n (λ v c. next v c k))
 unfolding after_number
-needs_number (number.Short x) next h = needs_short x
-needs_number (number.Got v c) next h = h v c
+needs_number (Err x) next h = needs_short x
+needs_number (Ok (v, c)) next h = h v c
 
 pub needs_contents : (g : Contents) (next : Cursor → ℕ → ℕ → Outcome) → ((c : Cursor) (end : ℕ) → Needs (next c end)) → Needs (λ k. after_contents short (refused InvalidData) g (λ c end. next c end k))
 unfolding after_contents
-needs_contents (contents.Short x) next h = needs_short x
-needs_contents contents.Past next h = needs_refused InvalidData bad_data
-needs_contents (contents.Between c end) next h = h c end
+needs_contents (Err (unread.Short x)) next h = needs_short x
+needs_contents (Err unread.Bad) next h = needs_refused InvalidData bad_data
+needs_contents (Ok (c, end)) next h = h c end

@@ -1,5 +1,6 @@
 -- What the statements of `Room` rule out: a reading that leaves rows away where room is short, and one capacity for every message. Computed from the
 -- definitions.
+use Rattle.std.specs.Prelude.{Ok}
 use Prim.Native.Nat.{ℕ, zero, suc, ◌+◌, ◌-◌, ◌<◌}
 use mathlib.Core.Path.{◌≡◌, refl, ap}
 use mathlib.Core.Bool.{true}
@@ -11,7 +12,6 @@ use Rattle.wire.specs.declared.settings.Settings.{Settings}
 use Rattle.wire.specs.declared.settings.ByteOrder.TheVariants.{BigEndian}
 use Rattle.wire.specs.declared.settings.Version.TheVariants.{Xcdr1}
 use Rattle.wire.specs.declared.settings.Mode.{Mode}
-use Rattle.wire.specs.declared.number.Number.TheVariants as number
 use Rattle.wire.specs.Identifier.{settings}
 use Rattle.wire.specs.Place.{cursor_at, alignment_of, padding_of, seek_to, align_to}
 use Rattle.wire.specs.Number.{number_at, on_bytes, number_here, on_aligned, read_number, after_number}
@@ -85,9 +85,9 @@ module _ (mode : Mode) where
       full_after (nested_at types set (suc d) s 0 i c (suc k)) c (row 22 i 0 0 c.pos ∷ []) (λ e used. opened_from types s set (nested_at types set (suc d)) 0 left (i + 1) e (suc k - used))
       (one_empty d s i c (suc k)) (elements_full d s left (i + 1) c (suc k - 1) (omega arith))
 
-  count_is : (n : ℕ) → read_number (counting n) set (cursor_at 0 0) 4 ≡ number.Got n (cursor_at 4 0)
+  count_is : (n : ℕ) → read_number (counting n) set (cursor_at 0 0) 4 ≡ Ok (n, cursor_at 4 0)
   unfolding read_number on_aligned number_here on_bytes number_at align_to seek_to padding_of alignment_of
-  count_is n = ap (λ (x : ℕ). number.Got x (cursor_at 4 0)) (omega arith)
+  count_is n = ap (λ (x : ℕ). Ok (x, cursor_at 4 0)) (omega arith)
 
   -- the root, whose elements are opened in this way
   module _ (nest : Nest) (n k : ℕ) (full : opened_from types (counting n) set nest 0 n 0 (cursor_at 4 0) (k - 1 - 1) ≡ refused NoRoom) where

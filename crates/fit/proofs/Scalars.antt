@@ -1,4 +1,6 @@
 -- What may come of a reading of a fit type, and that a value which opens nothing keeps to it. Assumes nothing.
+use Rattle.std.specs.Prelude.{Err, Ok}
+use Rattle.wire.specs.declared.cursor.Unread.TheVariants as unread
 use Prim.Native.Nat.{ℕ, ◌^◌, ◌<◌}
 use mathlib.Core.Path.{◌≡◌, refl, sym, ap, ◌∙◌}
 use mathlib.Core.Bool.{Bool, true, false, not}
@@ -10,16 +12,10 @@ use Rattle.ground.specs.Choice.{pick}
 use Rattle.ground.proofs.Tests.{apart}
 use Rattle.wire.specs.declared.cursor.Cursor.{Cursor}
 use Rattle.wire.specs.declared.settings.Settings.{Settings}
-use Rattle.wire.specs.declared.number.Number.{Number}
-use Rattle.wire.specs.declared.number.Number.TheVariants as number
-use Rattle.wire.specs.declared.number.Boolean.{Boolean}
-use Rattle.wire.specs.declared.number.Boolean.TheVariants as boolean
-use Rattle.wire.specs.Number.{read_number, halves_of, read_float128, read_boolean, on_byte, boolean_in}
+use Rattle.wire.specs.Number.{Number, Boolean, read_number, halves_of, read_float128, read_boolean, on_byte, boolean_in}
 use Rattle.wire.proofs.Numbers.{read_inv}
 use Rattle.kinds.specs.Kinds.{is_primitive, stored_of, align_of}
-use Rattle.text.specs.declared.string.Text.{Text}
-use Rattle.text.specs.declared.string.Text.TheVariants as text
-use Rattle.text.specs.Text.{string_type, wstring_type}
+use Rattle.text.specs.Text.{Text, string_type, wstring_type}
 use Rattle.text.proofs.Places.{string_inv, wstring_inv}
 use Rattle.table.specs.declared.rows.Row.{Row}
 use Rattle.table.specs.declared.out.Refusal.{Refusal}
@@ -50,50 +46,53 @@ rowed_settles : {R : List Row → Type 0} (k : ℕ) (c : Cursor) (r : Row) → R
 unfolding rowed
 rowed_settles k c r h = ends_room k no_room_law (finished h)
 
-boolean_settles : {R : List Row → Type 0} (id k : ℕ) (v : Boolean) → ((a b : ℕ) (b' : Bool) (c : Cursor) → v ≡ boolean.Got b' c → in_range 1 a b ≡ true → R (row 1 id a b (place_before 1 c.pos) ∷ []))
+boolean_settles : {R : List Row → Type 0} (id k : ℕ) (v : Boolean) → ((a b : ℕ) (b' : Bool) (c : Cursor) → v ≡ Ok (b', c) → in_range 1 a b ≡ true → R (row 1 id a b (place_before 1 c.pos) ∷ []))
     → Settles R (on_boolean id k v)
 unfolding on_boolean bool_word in_range
-boolean_settles id k (boolean.Got true c) r = rowed_settles k c _ (r _ _ true c refl refl)
-boolean_settles id k (boolean.Got false c) r = rowed_settles k c _ (r _ _ false c refl refl)
-boolean_settles id k boolean.Bad r = broken bad_data
-boolean_settles id k (boolean.Short x) r = wanting
+boolean_settles id k (Ok (true, c)) r = rowed_settles k c _ (r _ _ true c refl refl)
+boolean_settles id k (Ok (false, c)) r = rowed_settles k c _ (r _ _ false c refl refl)
+boolean_settles id k (Err unread.Bad) r = broken bad_data
+boolean_settles id k (Err (unread.Short x)) r = wanting
 
-float128_settles : {R : List Row → Type 0} (id k : ℕ) (n : Number) → ((v : ℕ) (d : Cursor) → n ≡ number.Got v d → v < 256 ^ 16)
-    → ((a b v : ℕ) (d : Cursor) → n ≡ number.Got v d → in_range 11 a b ≡ true → R (row 11 id a b (place_before 16 d.pos) ∷ [])) → Settles R (on_float128 id k (halves_of n))
+float128_settles : {R : List Row → Type 0} (id k : ℕ) (n : Number) → ((v : ℕ) (d : Cursor) → n ≡ Ok (v, d) → v < 256 ^ 16)
+    → ((a b v : ℕ) (d : Cursor) → n ≡ Ok (v, d) → in_range 11 a b ≡ true → R (row 11 id a b (place_before 16 d.pos) ∷ [])) → Settles R (on_float128 id k (halves_of n))
 unfolding on_float128 halves_of
-float128_settles id k (number.Got v c) small r = rowed_settles k c _ (r _ _ v c refl (halves_range v (small v c refl)))
-float128_settles id k (number.Short x) small r = wanting
+float128_settles id k (Ok (v, c)) small r = rowed_settles k c _ (r _ _ v c refl (halves_range v (small v c refl)))
+float128_settles id k (Err x) small r = wanting
 
-number_settles : {R : List Row → Type 0} (kind id k : ℕ) (n : Number) → ((v : ℕ) (d : Cursor) → n ≡ number.Got v d → in_range (stored_of kind) (word_of kind v) 0 ≡ true)
-    → ((a b v : ℕ) (d : Cursor) → n ≡ number.Got v d → in_range (stored_of kind) a b ≡ true → R (row (stored_of kind) id a b (place_before (align_of kind) d.pos) ∷ [])) → Settles R (on_number kind id k n)
+number_settles : {R : List Row → Type 0} (kind id k : ℕ) (n : Number) → ((v : ℕ) (d : Cursor) → n ≡ Ok (v, d) → in_range (stored_of kind) (word_of kind v) 0 ≡ true)
+    → ((a b v : ℕ) (d : Cursor) → n ≡ Ok (v, d) → in_range (stored_of kind) a b ≡ true → R (row (stored_of kind) id a b (place_before (align_of kind) d.pos) ∷ [])) → Settles R (on_number kind id k n)
 unfolding on_number
-number_settles kind id k (number.Got v c) range r = rowed_settles k c _ (r _ _ v c refl (range v c refl))
-number_settles kind id k (number.Short x) range r = wanting
+number_settles kind id k (Ok (v, c)) range r = rowed_settles k c _ (r _ _ v c refl (range v c refl))
+number_settles kind id k (Err x) range r = wanting
 
-text_settles : {R : List Row → Type 0} (kind id k : ℕ) (v : Text) → ((start n : ℕ) (c : Cursor) → v ≡ text.Got start n c → R (row kind id start n (place_before 4 start) ∷ [])) → Settles R (on_text kind id k v)
+text_settles : {R : List Row → Type 0} (kind id k : ℕ) (v : Text) → ((start n : ℕ) (c : Cursor) → v ≡ Ok (start, n, c) → R (row kind id start n (place_before 4 start) ∷ [])) → Settles R (on_text kind id k v)
 unfolding on_text
-text_settles kind id k (text.Got start n c) r = rowed_settles k c _ (r start n c refl)
-text_settles kind id k text.Bad r = broken bad_data
-text_settles kind id k (text.Short x) r = wanting
+text_settles kind id k (Ok (start, n, c)) r = rowed_settles k c _ (r start n c refl)
+text_settles kind id k (Err unread.Bad) r = broken bad_data
+text_settles kind id k (Err (unread.Short x)) r = wanting
 
 -- a boolean's byte, and where the reading then stands
-boolean_inv : (n : Number) (v : Bool) (d : Cursor) → on_byte n ≡ boolean.Got v d → (x : ℕ) × (n ≡ number.Got x d)
+boolean_inv : (n : Number) (v : Bool) (d : Cursor) → on_byte n ≡ Ok (v, d) → (x : ℕ) × (n ≡ Ok (x, d))
 unfolding on_byte boolean_in
-boolean_inv (number.Short x) v d e = absurd (let z : ◌≡◌ {A = ℕ} 0 1 = cc in omega arith)
-boolean_inv (number.Got x c) v d e = (x, ap (number.Got x) (go (eqb x 0) (eqb x 1) e))
+boolean_inv (Err x) v d e = absurd (let z : ◌≡◌ {A = ℕ} 0 1 = cc in omega arith)
+boolean_inv (Ok (x, c)) v d e = (x, ap (λ (y : Cursor). Ok (x, y)) (go (eqb x 0) (eqb x 1) e))
   where
-    go : (p q : Bool) → pick p (boolean.Got false c) (pick q (boolean.Got true c) boolean.Bad) ≡ boolean.Got v d → c ≡ d
-    go true q e = cc
-    go false true e = cc
+    place : (b : Bool) → ◌≡◌ {A = Boolean} (Ok (b, c)) (Ok (v, d)) → c ≡ d
+    place b e = let p : ◌≡◌ {A = Bool × Cursor} (b, c) (v, d) = cc in ap (λ (x : Bool × Cursor). x.1) p
+
+    go : (p q : Bool) → pick {A = Boolean} p (Ok (false, c)) (pick {A = Boolean} q (Ok (true, c)) (Err unread.Bad)) ≡ Ok (v, d) → c ≡ d
+    go true q e = place false e
+    go false true e = place true e
     go false false e = absurd (let z : ◌≡◌ {A = ℕ} 0 1 = cc in omega arith)
 
 -- what was read ends inside the data, so it begins there
 module _ (s : List ℕ) (set : Settings) where
-  number_placed : (c : Cursor) (w v : ℕ) (d : Cursor) → read_number s set c w ≡ number.Got v d → InData s (place_before w d.pos)
+  number_placed : (c : Cursor) (w v : ℕ) (d : Cursor) → read_number s set c w ≡ Ok (v, d) → InData s (place_before w d.pos)
   unfolding place_before
   number_placed c w v d g = omega (arith, (read_inv s set c w v d g).inside)
 
-  boolean_placed : (c : Cursor) (v : Bool) (d : Cursor) → read_boolean s set c ≡ boolean.Got v d → InData s (place_before 1 d.pos)
+  boolean_placed : (c : Cursor) (v : Bool) (d : Cursor) → read_boolean s set c ≡ Ok (v, d) → InData s (place_before 1 d.pos)
   unfolding read_boolean
   boolean_placed c v d g = let n = boolean_inv (read_number s set c 1) v d g in number_placed c 1 n.0 d n.1
 
@@ -132,8 +131,8 @@ module _ {R : List Row → Type 0} (s : List ℕ) (bytes : AreBytes s) (set : Se
           clash true e t = t
           clash false e t = apart e
 
-      within8 : (start n : ℕ) (d c : Cursor) → string_type s set c ≡ text.Got start n d → Inside s start n 1
+      within8 : (start n : ℕ) (d c : Cursor) → string_type s set c ≡ Ok (start, n, d) → Inside s start n 1
       within8 start n d c g = omega (arith, (string_inv s start n d set c g).0.room, (string_inv s start n d set c g).0.inside)
 
-      within16 : (start n : ℕ) (d c : Cursor) → wstring_type s set c ≡ text.Got start n d → Inside s start n 2
+      within16 : (start n : ℕ) (d c : Cursor) → wstring_type s set c ≡ Ok (start, n, d) → Inside s start n 2
       within16 start n d c g = omega (arith, (wstring_inv s set start n d c g).room, (wstring_inv s set start n d c g).inside)

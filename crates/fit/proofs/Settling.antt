@@ -1,5 +1,6 @@
 -- THE ONE PASS OVER THE RULES: where a type is fit, a value of it is read with rows of its shape, or is short, or is refused with one of three
 -- numbers. One law for each rule of the reader, in its order, over one hypothesis about how values are opened; then the depth. Assumes nothing.
+use Rattle.wire.specs.declared.cursor.Unread.TheVariants as unread
 use Prim.Native.Nat.{ℕ, zero, suc, ◌+◌, ◌-◌, ◌≤◌}
 use mathlib.Core.Path.{◌≡◌, refl, sym, ap, ◌∙◌}
 use mathlib.Core.Bool.{Bool, true, false, ◌||◌}
@@ -14,31 +15,24 @@ use borrow.Author.Tests.{eqb-true, eq-eqb, not-true}
 use Rattle.ground.specs.Choice.{both, among}
 use Rattle.ground.proofs.Tests.{apart, both_first, one_second}
 use Rattle.wire.specs.declared.cursor.Cursor.{Cursor}
-use Rattle.wire.specs.declared.cursor.Place.{Place}
-use Rattle.wire.specs.declared.cursor.Place.TheVariants as place
 use Rattle.wire.specs.declared.settings.Settings.{Settings}
 use Rattle.wire.specs.declared.settings.Version.{Version}
 use Rattle.wire.specs.declared.settings.Version.TheVariants.{Xcdr1, Xcdr2}
 use Rattle.wire.specs.declared.settings.Mode.{Mode}
 use Rattle.wire.specs.declared.settings.Mode.TheVariants.{Crate, Standard}
-use Rattle.wire.specs.declared.number.Number.TheVariants as number
-use Rattle.wire.specs.declared.number.Boolean.{Boolean}
-use Rattle.wire.specs.declared.number.Boolean.TheVariants as boolean
-use Rattle.wire.specs.Place.{seek_to}
-use Rattle.wire.specs.Number.{read_boolean}
-use Rattle.wire.proofs.Numbers.{read_inv}
+use Rattle.wire.specs.Place.{Place, seek_to}
+use Rattle.wire.specs.Number.{Number, Boolean, read_boolean}
+use Rattle.wire.proofs.Numbers.{got_inv, read_inv}
 use Rattle.kinds.specs.Kinds.{is_primitive, opens, unsupported_member, unsupported_element}
 use Rattle.book.specs.Types.{BookType, Member, optional, default, type_no}
 use Rattle.book.specs.Rules.{is_enum, is_list}
 use Rattle.book.specs.Asked.{read_as, is_sequence, primitive_element, is_mutable, is_structure}
-use Rattle.choice.specs.Discriminator.{discriminator_of}
+use Rattle.choice.specs.Discriminator.{Discriminator, discriminator_of}
 use Rattle.choice.specs.Select.{selected_of}
-use Rattle.choice.specs.declared.discriminator.Discriminator.{Discriminator}
-use Rattle.choice.specs.declared.discriminator.Discriminator.TheVariants as discriminator
-use Rattle.lookup.specs.Member.{locate}
+use Rattle.choice.specs.declared.discriminator.Unsaid.TheVariants as unsaid
+use Rattle.std.specs.Prelude.{Ok, Err, None, Some}
 use Rattle.lookup.specs.Xcdr1.{seek_to_sentinel}
-use Rattle.lookup.specs.declared.member.Located.{Located}
-use Rattle.lookup.specs.declared.member.Located.TheVariants as located
+use Rattle.lookup.specs.Member.{Located, locate}
 use Rattle.table.specs.declared.rows.Row.{Row}
 use Rattle.table.specs.declared.out.Refusal.TheVariants.{InvalidData}
 use Rattle.table.specs.Rows.{row}
@@ -81,12 +75,12 @@ settles_then_none rest h more = ends_then {S = NoRows} rest h more (λ rs ss r e
 
 -- ---- lists
 
-array_count : (s : List ℕ) (set : Settings) (sequence : Bool) (bound : ℕ) (c : Cursor) (v : ℕ) (d : Cursor) → sequence ≡ false → count_at s set sequence bound c ≡ number.Got v d → v ≡ bound
+array_count : (s : List ℕ) (set : Settings) (sequence : Bool) (bound : ℕ) (c : Cursor) (v : ℕ) (d : Cursor) → sequence ≡ false → count_at s set sequence bound c ≡ Ok (v, d) → v ≡ bound
 unfolding count_at
-array_count s set sequence bound c v d e g = let z : number.Got bound c ≡ number.Got v d = rw e at g in cc
+array_count s set sequence bound c v d e g = let z : ◌≡◌ {A = Number} (Ok (bound, c)) (Ok (v, d)) = rw e at g in sym ((got_inv z).0)
 
 -- a sequence's length ends inside the data
-sequence_counted : (s : List ℕ) (set : Settings) (sequence : Bool) (bound : ℕ) (c : Cursor) (v : ℕ) (d : Cursor) → sequence ≡ true → count_at s set sequence bound c ≡ number.Got v d → d.pos ≤ length s
+sequence_counted : (s : List ℕ) (set : Settings) (sequence : Bool) (bound : ℕ) (c : Cursor) (v : ℕ) (d : Cursor) → sequence ≡ true → count_at s set sequence bound c ≡ Ok (v, d) → d.pos ≤ length s
 unfolding count_at
 sequence_counted s set sequence bound c v d e g = (read_inv s set c 4 v d (rw e at g)).inside
 
@@ -190,8 +184,8 @@ module _ (types : List BookType) (w : List ℕ) (set : Settings) (right : (k : �
 
       block_settles : (p : Place) (o : Outcome) → Settles R o → Settles R (on_block p o)
       unfolding on_block
-      block_settles (place.Short x) o h = wanting
-      block_settles (place.At d) o h = h
+      block_settles (Err x) o h = wanting
+      block_settles (Ok d) o h = h
 
     opened_elements : (ty left i : ℕ) (c : Cursor) (k : ℕ) → opens (type_no types ty).kind ≡ true → Fit check_clauses types depth ty → Settles (Elements types w ty left i) (opened_from types s set nest ty left i c k)
     unfolding opened_from
@@ -222,7 +216,7 @@ module _ (types : List BookType) (w : List ℕ) (set : Settings) (right : (k : �
         ends_number _ _ (λ count d g.
         elements_settle t.element id count d (rows count d g (eqb t.kind 25) refl) k (list_element types t (element_supported_law f) (list_is t.kind e)) (fit_next (list_link t (list_is t.kind e)) f))
       where
-        rows : (count : ℕ) (d : Cursor) → count_at s set (eqb (type_no types ty).kind 25) (type_no types ty).bound c ≡ number.Got count d
+        rows : (count : ℕ) (d : Cursor) → count_at s set (eqb (type_no types ty).kind 25) (type_no types ty).bound c ≡ Ok (count, d)
             → (b : Bool) → eqb (type_no types ty).kind 25 ≡ b → (rs : List Row) → Elements types w (type_no types ty).element count 0 rs
             → Value types w ty id (row 25 id (stored_kind (type_no types (type_no types ty).element)) count d.pos ∷ rs)
         rows count d g true q rs x = shape.sequence count d.pos (eqb-true (type_no types ty).kind 25 q) (omega (arith, of.fits, sequence_counted s set (eqb (type_no types ty).kind 25) (type_no types ty).bound c count d q g)) x
@@ -264,11 +258,11 @@ module _ (types : List BookType) (w : List ℕ) (set : Settings) (right : (k : �
 
   module _ (s : List ℕ) (of : PartOf w s) where
     -- from the data up to the member's own end
-    located_settles : (m : Member) (k : ℕ) (l : Located) → ((n : ℕ) (c back : Cursor) → l ≡ located.Found n c back → c.pos ≤ length s) → Ready types depth m → Settles (Held types w m) (on_located types s set nest m k l)
+    located_settles : (m : Member) (k : ℕ) (l : Located) → ((n : ℕ) (c back : Cursor) → l ≡ Ok (Some (n, c), back) → c.pos ≤ length s) → Ready types depth m → Settles (Held types w m) (on_located types s set nest m k l)
     unfolding on_located found_of found_value
-    located_settles m k (located.Short x) inside h = wanting
-    located_settles m k (located.Absent back) inside h = finished shape.absent
-    located_settles m k (located.Found n c back) inside h =
+    located_settles m k (Err x) inside h = wanting
+    located_settles m k (Ok (None, back)) inside h = finished shape.absent
+    located_settles m k (Ok (Some (n, c), back)) inside h =
         ends_back back (found_settles (cut_at set s (c.pos + n)) (part_cut set s (c.pos + n) of) (by_length set.version set.mode types (type_no types m.type)) m n c k (omega (arith, of.fits, inside n c back refl)) refl h)
 
     mmember_settles : (m : Member) (c : Cursor) (k : ℕ) → Ready types depth m → Settles (Held types w m) (mmember_of types s set nest m c k)
@@ -277,10 +271,10 @@ module _ (types : List BookType) (w : List ℕ) (set : Settings) (right : (k : �
 
     present_settles : (m : Member) (k : ℕ) (b : Boolean) → Ready types depth m → Settles (Held types w m) (on_present types s set nest m k b)
     unfolding on_present
-    present_settles m k (boolean.Short x) h = wanting
-    present_settles m k boolean.Bad h = broken bad_data
-    present_settles m k (boolean.Got false c) h = finished shape.absent
-    present_settles m k (boolean.Got true c) h = value_settles s of m c k h
+    present_settles m k (Err (unread.Short x)) h = wanting
+    present_settles m k (Err unread.Bad) h = broken bad_data
+    present_settles m k (Ok (false, c)) h = finished shape.absent
+    present_settles m k (Ok (true, c)) h = value_settles s of m c k h
 
     optional_settles : (v : Version) (m : Member) (c : Cursor) (k : ℕ) → Ready types depth m → Settles (Held types w m) (optional_by types s set nest v m c k)
     unfolding optional_by
@@ -344,7 +338,7 @@ module _ (types : List BookType) (w : List ℕ) (set : Settings) (right : (k : �
       ready : AllReady types depth (disc ∷ others)
 
     module _ (mutable : Bool) {t : BookType} {disc : Member} {others : List Member} (u : Choosing t disc others) where
-      selected_settles : (ds : List Row) (value : ℤ) (o : Option Member) (c : Cursor) (k : ℕ) → Held types w disc ds → discriminator_of ds ≡ discriminator.Value value
+      selected_settles : (ds : List Row) (value : ℤ) (o : Option Member) (c : Cursor) (k : ℕ) → Held types w disc ds → discriminator_of ds ≡ Ok value
           → selected_of types disc (disc ∷ others) value ≡ o → Settles (λ ss. Beneath types w t (ds ++ ss)) (on_selected types s set nest mutable o c k)
       unfolding on_selected
       selected_settles ds value none c k h e q = broken bad_data
@@ -355,9 +349,9 @@ module _ (types : List BookType) (w : List ℕ) (set : Settings) (right : (k : �
       told_settles : (ds : List Row) (v : Discriminator) (c : Cursor) (k : ℕ) → Held types w disc ds → discriminator_of ds ≡ v
           → Settles (λ ss. Beneath types w t (ds ++ ss)) (on_discriminator types s set nest mutable disc (disc ∷ others) c k v)
       unfolding on_discriminator
-      told_settles ds discriminator.Absent c k h e = broken no_discriminator
-      told_settles ds discriminator.Unfit c k h e = absurd (never_unfit types w disc ds h u.fits e)
-      told_settles ds (discriminator.Value d) c k h e = selected_settles ds d (selected_of types disc (disc ∷ others) d) c k h e refl
+      told_settles ds (Err unsaid.Absent) c k h e = broken no_discriminator
+      told_settles ds (Err unsaid.Unfit) c k h e = absurd (never_unfit types w disc ds h u.fits e)
+      told_settles ds (Ok d) c k h e = selected_settles ds d (selected_of types disc (disc ∷ others) d) c k h e refl
 
       chosen_settles : (k : ℕ) {o : Outcome} → Settles (Held types w disc) o → Settles (Beneath types w t) (chosen_of types s set nest mutable disc (disc ∷ others) k o)
       unfolding chosen_of

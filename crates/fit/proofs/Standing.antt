@@ -1,5 +1,7 @@
 -- Where a move, a number, a text and the contents of a value stand, and what their shortages tell: one predicate for each of their answers, over what
 -- is claimed. What was read stands inside the data that it is read from. Assumes nothing.
+use Rattle.std.specs.Prelude.{Err, Ok}
+use Rattle.wire.specs.declared.cursor.Unread.TheVariants as unread
 use Prim.Native.Nat.{ℕ, zero, suc, ◌+◌, ◌-◌, ◌*◌, ◌/◌, ◌%◌, ◌≤◌, min}
 use mathlib.Core.Path.{◌≡◌, refl}
 use mathlib.Core.Bool.{Bool, true, false}
@@ -8,31 +10,21 @@ use native.Mathlib.Omega.{arith}
 use native.Mathlib.Nat.{mod-le}
 use lib.Dec.{eqb, leb, ltb}
 use lib.ListN.{length}
-use lib.Seq.{take_all}
 use borrow.Author.Tests.{leb-true, leb-false, ltb-false}
 use Rattle.wire.specs.declared.cursor.Cursor.{Cursor}
 use Rattle.wire.specs.declared.cursor.Shortage.{Shortage}
-use Rattle.wire.specs.declared.cursor.Place.{Place}
-use Rattle.wire.specs.declared.cursor.Place.TheVariants as place
 use Rattle.wire.specs.declared.settings.Settings.{Settings}
 use Rattle.wire.specs.declared.settings.ByteOrder.{ByteOrder}
 use Rattle.wire.specs.declared.settings.Version.{Version}
 use Rattle.wire.specs.declared.settings.Version.TheVariants.{Xcdr1, Xcdr2}
-use Rattle.wire.specs.declared.number.Number.{Number}
-use Rattle.wire.specs.declared.number.Number.TheVariants as number
-use Rattle.wire.specs.declared.number.Boolean.{Boolean}
-use Rattle.wire.specs.declared.number.Boolean.TheVariants as boolean
-use Rattle.wire.specs.declared.dheader.Contents.{Contents}
-use Rattle.wire.specs.declared.dheader.Contents.TheVariants as contents
-use Rattle.wire.specs.Place.{alignment_of, padding_of, seek_to, align_to, after_move}
-use Rattle.wire.specs.Number.{on_bytes, number_here, on_aligned, read_number, boolean_in, on_byte, read_boolean, after_number}
+use Rattle.wire.specs.Place.{Place, alignment_of, padding_of, seek_to, align_to, after_move}
+use Rattle.wire.specs.Number.{Number, Boolean, on_bytes, number_here, on_aligned, read_number, boolean_in, on_byte, read_boolean, after_number}
 use Rattle.wire.specs.Ends.{keeps_ends, cut_at}
-use Rattle.wire.specs.Dheader.{up_to, dheader_at, delimited_by, contents_at}
-use Rattle.text.specs.declared.string.Text.{Text}
-use Rattle.text.specs.declared.string.Text.TheVariants as text
+use Rattle.wire.proofs.Contents.{cut_whole}
+use Rattle.wire.specs.Dheader.{Contents, up_to, dheader_at, delimited_by, contents_at}
 use Rattle.text.specs.Unicode.{utf8, utf16}
 use Rattle.text.specs.Text as textual
-use Rattle.text.specs.Text.{part, text_if, bytes_here, string_type, Units, unit_then, read_units, on_units, units_here, wide_here, wstring_type}
+use Rattle.text.specs.Text.{Text, short_text, part, text_if, bytes_here, string_type, Units, unit_then, read_units, on_units, units_here, wide_here, wstring_type}
 use Rattle.fit.proofs.Claims.{Claim}
 use Rattle.fit.proofs.Cuts.{cut_keeps}
 use Rattle.fit.proofs.Ends.{by_test}
@@ -40,27 +32,27 @@ use Rattle.fit.proofs.Ends.{by_test}
 -- ---- what each answer tells
 
 pub data PlaceIn {set : Settings} (K : Claim set) (s : List ℕ) : Place → Type 0 where
-  place_in : {c : Cursor} → c.pos ≤ length s → PlaceIn K s (place.At c)
-  no_place : {x : Shortage} → K.Lacks s x → PlaceIn K s (place.Short x)
+  place_in : {c : Cursor} → c.pos ≤ length s → PlaceIn K s (Ok c)
+  no_place : {x : Shortage} → K.Lacks s x → PlaceIn K s (Err x)
 
 -- a number of which P holds
 pub data NumberIn {set : Settings} (K : Claim set) (s : List ℕ) (P : ℕ → Type 0) : Number → Type 0 where
-  number_in : {v : ℕ} {c : Cursor} → c.pos ≤ length s → P v → NumberIn K s P (number.Got v c)
-  no_number : {x : Shortage} → K.Lacks s x → NumberIn K s P (number.Short x)
+  number_in : {v : ℕ} {c : Cursor} → c.pos ≤ length s → P v → NumberIn K s P (Ok (v, c))
+  no_number : {x : Shortage} → K.Lacks s x → NumberIn K s P (Err x)
 
 -- what is claimed of a number of w bytes
 abbrev pub OfBytes : {set : Settings} → Claim set → ℕ → ℕ → Type 0
 OfBytes K w v = w ≤ 4 → K.Word v
 
 pub data BooleanIn {set : Settings} (K : Claim set) (s : List ℕ) : Boolean → Type 0 where
-  boolean_in_law : {b : Bool} {c : Cursor} → c.pos ≤ length s → BooleanIn K s (boolean.Got b c)
-  bad_boolean : BooleanIn K s boolean.Bad
-  no_boolean_law : {x : Shortage} → K.Lacks s x → BooleanIn K s (boolean.Short x)
+  boolean_in_law : {b : Bool} {c : Cursor} → c.pos ≤ length s → BooleanIn K s (Ok (b, c))
+  bad_boolean : BooleanIn K s (Err unread.Bad)
+  no_boolean_law : {x : Shortage} → K.Lacks s x → BooleanIn K s (Err (unread.Short x))
 
 pub data TextIn {set : Settings} (K : Claim set) (s : List ℕ) : Text → Type 0 where
-  text_in : {start n : ℕ} {c : Cursor} → start ≤ length s → c.pos ≤ length s → TextIn K s (text.Got start n c)
-  bad_text : TextIn K s text.Bad
-  no_text : {x : Shortage} → K.Lacks s x → TextIn K s (text.Short x)
+  text_in : {start n : ℕ} {c : Cursor} → start ≤ length s → c.pos ≤ length s → TextIn K s (Ok (start, n, c))
+  bad_text : TextIn K s (Err unread.Bad)
+  no_text : {x : Shortage} → K.Lacks s x → TextIn K s (Err (unread.Short x))
 
 data UnitsIn {set : Settings} (K : Claim set) (s : List ℕ) : Units → Type 0 where
   units_in : {us : List ℕ} {c : Cursor} → c.pos ≤ length s → UnitsIn K s (textual.units us c)
@@ -68,9 +60,9 @@ data UnitsIn {set : Settings} (K : Claim set) (s : List ℕ) : Units → Type 0 
 
 -- contents begin and end in what is left of the data where it is cut at their end
 pub data ContentsIn {set : Settings} (K : Claim set) (s : List ℕ) : Contents → Type 0 where
-  contents_in : {c : Cursor} {own : ℕ} → K.At (cut_at set s own) c.pos → K.At (cut_at set s own) own → ContentsIn K s (contents.Between c own)
-  contents_past : ContentsIn K s contents.Past
-  no_contents : {x : Shortage} → K.Lacks s x → ContentsIn K s (contents.Short x)
+  contents_in : {c : Cursor} {own : ℕ} → K.At (cut_at set s own) c.pos → K.At (cut_at set s own) own → ContentsIn K s (Ok (c, own))
+  contents_past : ContentsIn K s (Err unread.Bad)
+  no_contents : {x : Shortage} → K.Lacks s x → ContentsIn K s (Err (unread.Short x))
 
 -- ---- what follows a move or a number, whatever is said of it
 
@@ -91,16 +83,7 @@ unfolding padding_of alignment_of
 padding_within Xcdr1 c size = omega (arith, mod-le (size - (c.pos - c.origin) % size) size)
 padding_within Xcdr2 c size = omega (arith, mod-le (min size 4 - (c.pos - c.origin) % min size 4) (min size 4))
 
--- the data cut at its own end is the data
-pub cut_whole : (set : Settings) (s : List ℕ) → cut_at set s (length s) ≡ s
-unfolding cut_at
-cut_whole set s = go (keeps_ends set) refl
-  where
-    go : (k : Bool) → keeps_ends set ≡ k → cut_at set s (length s) ≡ s
-    go true e = rw e (take_all (length s) s (omega arith))
-    go false e = rw e
-
--- and cut where ends are not kept
+-- the data cut where ends are not kept is the data
 pub cut_nowhere : (set : Settings) (s : List ℕ) (end : ℕ) → keeps_ends set ≡ false → cut_at set s end ≡ s
 unfolding cut_at
 cut_nowhere set s end e = rw e
@@ -155,20 +138,20 @@ module _ {set : Settings} (K : Claim set) (s : List ℕ) (g : K.Given s) where
   text_if_law true start n c b l = text_in b l
   text_if_law false start n c b l = bad_text
 
-  abbrev failing : (x : Shortage) → K.Lacks s x → TextIn K s (text.Short x)
+  abbrev failing : (x : Shortage) → K.Lacks s x → TextIn K s (Err (unread.Short x))
   failing x l = no_text l
 
   bytes_here_law : (c : Cursor) (n : ℕ) → c.pos ≤ length s → K.Wanted n → TextIn K s (bytes_here s c n)
   unfolding bytes_here
   bytes_here_law c n l w =
       let F : Text → Type 0 = TextIn K s in
-      after_move_law K s F text.Short failing (seek_in c n (K.inside s c.pos g l) w) _ (λ d k.
-      after_move_law K s F text.Short failing (seek_in d 1 (K.inside s d.pos g k) (K.few 1 (omega arith))) _ (λ e h. text_if_law (utf8 (part s c.pos n)) c.pos n e l h))
+      after_move_law K s F short_text failing (seek_in c n (K.inside s c.pos g l) w) _ (λ d k.
+      after_move_law K s F short_text failing (seek_in d 1 (K.inside s d.pos g k) (K.few 1 (omega arith))) _ (λ e h. text_if_law (utf8 (part s c.pos n)) c.pos n e l h))
 
   pub string_in : (c : Cursor) → K.At s c.pos → TextIn K s (string_type s set c)
   unfolding string_type
   string_in c l =
-      after_number_law K s (TextIn K s) text.Short failing (read_in c 4 (omega arith) l) _ (λ n d k w. bytes_here_law d (n - 1) k (wanted_by (n - 1) n (omega arith) (w (omega arith))))
+      after_number_law K s (TextIn K s) short_text failing (read_in c 4 (omega arith) l) _ (λ n d k w. bytes_here_law d (n - 1) k (wanted_by (n - 1) n (omega arith) (w (omega arith))))
 
   unit_then_law : (u : ℕ) {r : Units} → UnitsIn K s r → UnitsIn K s (unit_then u r)
   unfolding unit_then
@@ -194,7 +177,7 @@ module _ {set : Settings} (K : Claim set) (s : List ℕ) (g : K.Given s) where
 
   pub wstring_in : (c : Cursor) → K.At s c.pos → TextIn K s (wstring_type s set c)
   unfolding wstring_type
-  wstring_in c l = after_number_law K s (TextIn K s) text.Short failing (read_in c 4 (omega arith) l) _ (λ n d k w. wide_here_law d n k)
+  wstring_in c l = after_number_law K s (TextIn K s) short_text failing (read_in c 4 (omega arith) l) _ (λ n d k w. wide_here_law d n k)
 
   -- ---- contents: an end past the data's is refused where ends are kept, and in XCDR1 none is told
 
@@ -215,7 +198,7 @@ module _ {set : Settings} (K : Claim set) (s : List ℕ) (g : K.Given s) where
           let z : cut_at set s (c.pos + n) ≡ s = cut_nowhere set s (c.pos + n) e in
           rw e (contents_in {c = c} {own = c.pos + n} (rw z (K.inside s c.pos g l)) (rw z (K.past s c.pos n g v e l w)))
 
-  undelimited_in : (c : Cursor) → K.At s c.pos → ContentsIn K s (contents.Between c (length s))
+  undelimited_in : (c : Cursor) → K.At s c.pos → ContentsIn K s (Ok (c, length s))
   undelimited_in c l =
       let z : cut_at set s (length s) ≡ s = cut_whole set s in
       contents_in {c = c} {own = length s} (rw z l) (rw z (K.inside s (length s) g (omega arith)))
@@ -224,12 +207,12 @@ module _ {set : Settings} (K : Claim set) (s : List ℕ) (g : K.Given s) where
   unfolding delimited_by dheader_at
   delimited_in Xcdr1 c e l = undelimited_in c l
   delimited_in Xcdr2 c e l =
-      after_number_law K s (ContentsIn K s) contents.Short (λ x k. no_contents k) (read_in c 4 (omega arith) l) _ (λ n d k w. up_to_in d n e k (w (omega arith)))
+      after_number_law K s (ContentsIn K s) (λ x. Err (unread.Short x)) (λ x k. no_contents k) (read_in c 4 (omega arith) l) _ (λ n d k w. up_to_in d n e k (w (omega arith)))
 
   pub contents_at_in : (f : Bool) (c : Cursor) → K.At s c.pos → ContentsIn K s (contents_at s set f c)
   unfolding contents_at
   contents_at_in f c l = by_test (ContentsIn K s) f (λ e. delimited_in set.version c refl l) (λ e. undelimited_in c l)
 
   -- a short DHEADER that is unheard leaves contents that begin where it stands
-  pub unheard_at : (x : Shortage) → K.Lacks s x → ContentsIn K s (contents.Between x.at (length s))
+  pub unheard_at : (x : Shortage) → K.Lacks s x → ContentsIn K s (Ok (x.at, length s))
   unheard_at x l = undelimited_in x.at (K.stands s x l)

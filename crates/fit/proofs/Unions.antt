@@ -18,7 +18,8 @@ use Rattle.table.specs.declared.rows.Row.{Row}
 use Rattle.table.specs.Rows.{row}
 use Rattle.choice.specs.Discriminator.{discriminator_in, enum_in, discriminator_of}
 use Rattle.choice.specs.Select.{by_default_value, default_value, selected_of}
-use Rattle.choice.specs.declared.discriminator.Discriminator.TheVariants.{Unfit}
+use Rattle.choice.specs.declared.discriminator.Unsaid.TheVariants.{Unfit}
+use Rattle.std.specs.Prelude.{Err}
 use Rattle.fit.specs.Fit.{chooses}
 use Rattle.shape.specs.Shape as shape
 use Rattle.shape.specs.Shape.{OneOf, Held, stored_kind}
@@ -27,17 +28,17 @@ use Rattle.fit.proofs.KindTests.{base_is, chosen_stored}
 
 -- ---- the discriminator's value can be taken from its rows
 
-row_in : (r : Row) → among (3 ∷ 4 ∷ 6 ∷ 7 ∷ 12 ∷ 13 ∷ []) r.kind ≡ true → discriminator_in r ≡ Unfit → ⊥
+row_in : (r : Row) → among (3 ∷ 4 ∷ 6 ∷ 7 ∷ 12 ∷ 13 ∷ []) r.kind ≡ true → discriminator_in r ≡ Err Unfit → ⊥
 unfolding discriminator_in
 row_in r e z = let q : ◌≡◌ {A = ℕ} 0 1 = cc (rw e at z) in omega arith
 
-row_of : (kind id a b p : ℕ) → among (3 ∷ 4 ∷ 6 ∷ 7 ∷ 12 ∷ 13 ∷ []) kind ≡ true → discriminator_of (row kind id a b p ∷ []) ≡ Unfit → ⊥
+row_of : (kind id a b p : ℕ) → among (3 ∷ 4 ∷ 6 ∷ 7 ∷ 12 ∷ 13 ∷ []) kind ≡ true → discriminator_of (row kind id a b p ∷ []) ≡ Err Unfit → ⊥
 unfolding discriminator_of every
 row_of kind id a b p e z =
     let n : eqb kind 21 ≡ false = not-true (eqb kind 21) (among_each (λ k. not (eqb k 21)) (3 ∷ 4 ∷ 6 ∷ 7 ∷ 12 ∷ 13 ∷ []) tt kind e) in
     row_in (row kind id a b p) e (rw n at z)
 
-pub never_unfit : (types : List BookType) (s : List ℕ) (m : Member) (rs : List Row) → Held types s m rs → chooses (type_no types m.type) ≡ true → discriminator_of rs ≡ Unfit → ⊥
+pub never_unfit : (types : List BookType) (s : List ℕ) (m : Member) (rs : List Row) → Held types s m rs → chooses (type_no types m.type) ≡ true → discriminator_of rs ≡ Err Unfit → ⊥
 unfolding discriminator_of enum_in chooses
 never_unfit types s m rs shape.absent c z = let q : ◌≡◌ {A = ℕ} 0 1 = cc in omega arith
 never_unfit types s m rs (shape.present (shape.one (shape.scalar a b p n g l))) c z = row_of (stored_kind (type_no types m.type)) m.id a b p (chosen_stored (type_no types m.type) c n) z

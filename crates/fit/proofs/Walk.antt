@@ -12,31 +12,24 @@ use lib.ListN.{length}
 use Rattle.ground.specs.Choice.{both, among}
 use Rattle.wire.specs.declared.cursor.Cursor.{Cursor}
 use Rattle.wire.specs.declared.cursor.Shortage.{Shortage}
-use Rattle.wire.specs.declared.cursor.Place.{Place}
 use Rattle.wire.specs.declared.settings.Settings.{Settings}
 use Rattle.wire.specs.declared.settings.Version.{Version}
 use Rattle.wire.specs.declared.settings.Version.TheVariants.{Xcdr1, Xcdr2}
-use Rattle.wire.specs.declared.number.Number.{Number}
-use Rattle.wire.specs.declared.number.Number.TheVariants as number
-use Rattle.wire.specs.declared.number.Boolean.{Boolean}
-use Rattle.wire.specs.declared.dheader.Contents.{Contents}
-use Rattle.wire.specs.Place.{cursor_at, after_move}
-use Rattle.wire.specs.Number.{halves_of, read_float128, after_number}
+use Rattle.wire.specs.Place.{Place, cursor_at, after_move}
+use Rattle.wire.specs.Number.{Number, Boolean, halves_of, read_float128, after_number}
 use Rattle.wire.specs.Ends.{keeps_ends, cut_at}
-use Rattle.wire.specs.Dheader.{after_contents}
+use Rattle.wire.specs.Dheader.{Contents, after_contents}
 use Rattle.kinds.specs.Kinds.{is_primitive, opens, unsupported_member, unsupported_element, align_of, element_size_of}
-use Rattle.text.specs.declared.string.Text.{Text}
+use Rattle.text.specs.Text.{Text}
 use Rattle.book.specs.Types.{BookType, Member, optional, type_no}
 use Rattle.book.specs.Asked.{read_as, is_sequence, is_mutable, is_structure, is_delimited}
-use Rattle.choice.specs.Discriminator.{discriminator_of}
+use Rattle.choice.specs.Discriminator.{Discriminator, discriminator_of}
 use Rattle.choice.specs.Select.{selected_of}
-use Rattle.choice.specs.declared.discriminator.Discriminator.{Discriminator}
-use Rattle.choice.specs.declared.discriminator.Discriminator.TheVariants as discriminator
-use Rattle.lookup.specs.declared.member.Located.{Located}
-use Rattle.lookup.specs.declared.member.Located.TheVariants as located
-use Rattle.lookup.specs.declared.search.Seek.{Seek}
+use Rattle.choice.specs.declared.discriminator.Unsaid.TheVariants as unsaid
+use Rattle.std.specs.Prelude.{Ok, Err, Some}
+use Rattle.lookup.specs.Search.{Seek}
 use Rattle.lookup.specs.Xcdr1.{sentinel_place, seek_to_sentinel}
-use Rattle.lookup.specs.Member.{locate}
+use Rattle.lookup.specs.Member.{Located, locate}
 use Rattle.table.specs.declared.rows.Row.{Row}
 use Rattle.table.specs.declared.out.Refusal.{Refusal}
 use Rattle.table.specs.declared.out.Refusal.TheVariants.{InvalidData}
@@ -221,7 +214,7 @@ module _ (types : List BookType) {set : Settings} (K : Claim set) (bounds : (ty 
         by_test F (among (2 ∷ 13 ∷ []) t.kind) (λ e. stands_block (seek_in K s g c count l w) (list_stands K s g t.kind id count c k l)) (λ e. list_stands K s g t.kind id count c k l))
         (λ p. list_stands K s g (read_as t) id count c k l)))
 
-    array_stands : (t : BookType) (id : ℕ) (c : Cursor) (k : ℕ) → K.Wanted t.bound → K.At s c.pos → Stands K s (after_number short (number.Got t.bound c) (λ count d. elements_of types s set nest t.element id count d k))
+    array_stands : (t : BookType) (id : ℕ) (c : Cursor) (k : ℕ) → K.Wanted t.bound → K.At s c.pos → Stands K s (after_number short (Ok (t.bound, c)) (λ count d. elements_of types s set nest t.element id count d k))
     unfolding after_number
     array_stands t id c k w l = elements_stand t.element id t.bound c k w l
 
@@ -336,9 +329,9 @@ module _ (types : List BookType) {set : Settings} (K : Claim set) (bounds : (ty 
 
     told_stands : (mutable : Bool) (disc : Member) (ms : List Member) (c : Cursor) (k : ℕ) (v : Discriminator) → K.At s c.pos → Stands K s (on_discriminator types s set nest mutable disc ms c k v)
     unfolding on_discriminator
-    told_stands mutable disc ms c k discriminator.Absent l = refused_stands
-    told_stands mutable disc ms c k discriminator.Unfit l = refused_stands
-    told_stands mutable disc ms c k (discriminator.Value d) l = selected_stands mutable (selected_of types disc ms d) c k l
+    told_stands mutable disc ms c k (Err unsaid.Absent) l = refused_stands
+    told_stands mutable disc ms c k (Err unsaid.Unfit) l = refused_stands
+    told_stands mutable disc ms c k (Ok d) l = selected_stands mutable (selected_of types disc ms d) c k l
 
     chosen_stands : (mutable : Bool) (disc : Member) (ms : List Member) (k : ℕ) {o : Outcome} → Stands K s o → Stands K s (chosen_of types s set nest mutable disc ms k o)
     unfolding chosen_of
@@ -418,10 +411,10 @@ module _ (types : List BookType) {set : Settings} (K : Claim set) (bounds : (ty 
       opened_stands types K bounds (nested_at types set depth) (nested_stands depth) s g (opens (type_no types ty).kind) ty id c k l
 
   -- A FOUND MEMBER, from the data up to the member's own end
-  pub member_stands : (depth : ℕ) (s : List ℕ) (m : Member) (d : Cursor) (n : ℕ) (c back : Cursor) (k : ℕ) → K.Given s → K.At s d.pos → locate s set m.id d ≡ located.Found n c back
+  pub member_stands : (depth : ℕ) (s : List ℕ) (m : Member) (d : Cursor) (n : ℕ) (c back : Cursor) (k : ℕ) → K.Given s → K.At s d.pos → locate s set m.id d ≡ Ok (Some (n, c), back)
       → (c.pos ≤ length s) × Stands K (cut_at set s (c.pos + n)) (found_of types s set (nested_at types set depth) m n c k)
   member_stands depth s m d n c back k g l e =
-      let f : LocatedIn K s (located.Found n c back) = rw e at (locate_in K s g m.id d l) in
+      let f : LocatedIn K s (Ok (Some (n, c), back)) = rw e at (locate_in K s g m.id d l) in
       let h : c.pos ≤ length s = found_begins K n c back f refl in
       (h, found_stands types K bounds (nested_at types set depth) (nested_stands depth) s g m n c k (found_wanted K n c back f refl) h)
 

@@ -1,4 +1,5 @@
 -- A POSITION NEVER PASSES THE DATA'S END, nor does the place of a row, but for XCDR2 in the crate's mode: the walk over the rules, with that claim. Assumes nothing.
+use Rattle.std.specs.Prelude.{Ok, Some}
 use Prim.Native.Nat.{ℕ, ◌+◌, ◌≤◌}
 use mathlib.Core.Path.{◌≡◌}
 use mathlib.Core.Bool.{Bool, true, false}
@@ -11,7 +12,6 @@ use Rattle.wire.specs.declared.settings.Version.TheVariants.{Xcdr1}
 use Rattle.wire.specs.declared.settings.Mode.TheVariants.{Standard}
 use Rattle.wire.specs.Ends.{keeps_ends_by, cut_at}
 use Rattle.book.specs.Types.{BookType, Member}
-use Rattle.lookup.specs.declared.member.Located.TheVariants as located
 use Rattle.lookup.specs.Member.{locate}
 use Rattle.table.specs.declared.rows.Row.{Row}
 use Rattle.table.specs.Outcome.{Outcome, read}
@@ -63,7 +63,7 @@ pub nested_within : (types : List BookType) (set : Settings) → StaysInside set
 nested_within types set stays depth s ty id c k l = within set stays (nested_stands types (inside_claim set stays) (λ t. tt) depth s ty id c k tt l)
 
 -- A FOUND MEMBER, where the reading does not stay: its value begins inside the data up to the member's own end, and stays there
-pub member_within : (types : List BookType) (set : Settings) → StaysInside set → (depth : ℕ) (s : List ℕ) (m : Member) (d : Cursor) (n : ℕ) (c back : Cursor) (k : ℕ) → d.pos ≤ length s → locate s set m.id d ≡ located.Found n c back
+pub member_within : (types : List BookType) (set : Settings) → StaysInside set → (depth : ℕ) (s : List ℕ) (m : Member) (d : Cursor) (n : ℕ) (c back : Cursor) (k : ℕ) → d.pos ≤ length s → locate s set m.id d ≡ Ok (Some (n, c), back)
     → (c.pos ≤ length (cut_at set s (c.pos + n))) × Within (length (cut_at set s (c.pos + n))) (found_of types s set (nested_at types set depth) m n c k)
 member_within types set stays depth s m d n c back k l e =
     let f = member_stands types (inside_claim set stays) (λ t. tt) depth s m d n c back k tt l e in

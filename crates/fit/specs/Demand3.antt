@@ -3,8 +3,7 @@ use Rattle.std.specs.Prelude.{ℕ, ◌≤◌, ◌<◌, ◌≡◌, Bool, true, Li
 use Rattle.book.specs.Types.{BookType, type_count, types_of}
 use Rattle.book.specs.Rules.{book_ok}
 use Rattle.book.specs.declared.fault.Reason.{Reason}
-use Rattle.book.specs.declared.fault.Fault.TheVariants.{In}
-use Rattle.book.specs.Fault.{reason_number, fault_of}
+use Rattle.book.specs.Fault.{reason_number, broken, fault_of}
 use Rattle.table.specs.Outcome.{Outcome, number_of, rows_of}
 use Rattle.fit.specs.Fit.{Passes}
 use Rattle.fit.specs.Ids.{clauses_for}
@@ -13,7 +12,7 @@ use Rattle.shape.specs.Shape.{Opened}
 -- the check's number, with what it says: 0 passes, "Otherwise 8, 9, then 16."; order 2: "8 becomes 17 to 23"
 pub data Checked (book : List ℕ) (root : ℕ) (onlyXcdr2 : Bool) : ℕ → Type 0 where
   fit : book_ok book ≡ true → root < type_count book → Passes (clauses_for onlyXcdr2) (types_of book) root → Checked book root onlyXcdr2 0
-  bad_book : {k : ℕ} {why : Reason} → fault_of book ≡ In k why → Checked book root onlyXcdr2 (reason_number why)
+  bad_book : {k : ℕ} {why : Reason} → fault_of book ≡ broken k why → Checked book root onlyXcdr2 (reason_number why)
   bad_root : book_ok book ≡ true → type_count book ≤ root → Checked book root onlyXcdr2 9
   unfit : book_ok book ≡ true → root < type_count book → (Passes (clauses_for onlyXcdr2) (types_of book) root → ⊥) → Checked book root onlyXcdr2 16
 

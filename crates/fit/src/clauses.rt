@@ -1,60 +1,54 @@
 // What the check asks of one type by itself: a function for each clause.
 ghost use Rattle.std.specs.Prelude.{◌≡◌, List};
-ghost use Rattle.book.specs.Types.{BookType, type_no};
-ghost use Rattle.book.specs.Places.{member_at, type_at, types_by};
+ghost use Rattle.book.specs.Types.{BookType};
+ghost use Rattle.book.specs.Places.{member_at, type_at, types_in};
 ghost use Rattle.fit.specs.Fit.{member_supported, members_supported, element_supported, base_supported, chooses, discriminator_fits, meets};
 ghost use Rattle.fit.specs.Ids.{clauses_for};
 
 use crate::ids::ids_fit;
 use book::asked::{base_at, kind_at};
-use book::index::place;
-use book::member::{after, members, type_index};
+use book::index::Types;
+use book::member::{members, type_index};
 use book::types::{bound, element, is_bounded};
 use kinds::names::{
     ARRAY, BITMASK, BYTE, ENUM, INT8, INT16, INT32, SEQUENCE, UINT8, UINT16, UINT32, UNION,
 };
 
-// The kind of type number k.
-fn kind_of(book: &[u8], index: &[u32], k: usize) -> u8
-    ensures { result ≡ (type_no (types_by book.now index.now) k).kind }
+#[tactic(auto, using(std::proofs::lemmas::Bool::Decides::nat_tests), unfolding(crate::specs::Fit::member_supported))]
+fn member_supported(types: &Types, p: usize) -> bool
+    ensures { result ≡ member_supported (types_in types.now) (member_at types.now.book.now p) }
 {
-    kind_at(book, place(book, index, k))
+    !kinds::unsupported_member(types.kind_of(type_index(types.book, p)))
 }
 
-fn member_supported(book: &[u8], index: &[u32], p: usize) -> bool
-    ensures { result ≡ member_supported (types_by book.now index.now) (member_at book.now p) }
+#[tactic(auto, using(std::proofs::lemmas::Bool::Decides::nat_tests), unfolding(crate::specs::Fit::members_supported))]
+fn members_supported(types: &Types, at: usize) -> bool
+    ensures { result ≡ members_supported (types_in types.now) (type_at types.now.book.now at) }
 {
-    !kinds::unsupported_member(kind_of(book, index, type_index(book, p)))
-}
-
-fn members_supported(book: &[u8], index: &[u32], at: usize) -> bool
-    ensures { result ≡ members_supported (types_by book.now index.now) (type_at book.now at) }
-{
-    if kind_at(book, at) == ENUM {
+    if kind_at(types.book, at) == ENUM {
         return true;
     }
-    let mut ms = members(book, at);
-    while 0 < ms.left {
-        let p = ms.at;
-        if !member_supported(book, index, p) {
+    for p in members(types.book, at) {
+        if !member_supported(types, p) {
             return false;
         }
-        ms = after(book, ms);
     }
     true
 }
 
-fn element_supported(book: &[u8], index: &[u32], at: usize) -> bool
-    ensures { result ≡ element_supported (types_by book.now index.now) (type_at book.now at) }
+#[tactic(auto, using(std::proofs::lemmas::Bool::Decides::nat_tests), unfolding(crate::specs::Fit::element_supported))]
+fn element_supported(types: &Types, at: usize) -> bool
+    ensures { result ≡ element_supported (types_in types.now) (type_at types.now.book.now at) }
 {
-    let kind = kind_at(book, at);
+    let kind = kind_at(types.book, at);
     if (kind == SEQUENCE) | (kind == ARRAY) {
-        return !kinds::unsupported_element(kind_of(book, index, element(book, at)));
+        return !kinds::unsupported_element(types.kind_of(element(types.book, at)));
     }
     true
 }
 
 // Whatever the other types are.
+#[tactic(auto, using(std::proofs::lemmas::Bool::Decides::nat_tests), unfolding(crate::specs::Fit::base_supported))]
 fn base_supported(book: &[u8], at: usize) -> bool
     ensures { (types : List BookType) → result ≡ base_supported types (type_at book.now at) }
 {
@@ -67,6 +61,7 @@ fn base_supported(book: &[u8], at: usize) -> bool
 }
 
 // Whether a value of the type at a place may tell which member of a union follows.
+#[tactic(auto, using(std::proofs::lemmas::Bool::Decides::nat_tests), unfolding(crate::specs::Fit::chooses))]
 fn chooses(book: &[u8], at: usize) -> bool
     ensures { result ≡ chooses (type_at book.now at) }
 {
@@ -85,27 +80,27 @@ fn chooses(book: &[u8], at: usize) -> bool
         | (kind == ENUM)
 }
 
-fn discriminator_fits(book: &[u8], index: &[u32], at: usize) -> bool
-    ensures { result ≡ discriminator_fits (types_by book.now index.now) (type_at book.now at) }
+#[tactic(auto, using(std::proofs::lemmas::Bool::Decides::nat_tests), unfolding(crate::specs::Fit::discriminator_fits, crate::specs::Fit::first_chooses))]
+fn discriminator_fits(types: &Types, at: usize) -> bool
+    ensures { result ≡ discriminator_fits (types_in types.now) (type_at types.now.book.now at) }
 {
-    if kind_at(book, at) == UNION {
-        let ms = members(book, at);
-        let p = ms.at;
-        if ms.left == 0 {
-            return false;
+    if kind_at(types.book, at) == UNION {
+        let mut ms = members(types.book, at);
+        if let Some(p) = ms.next() {
+            return chooses(types.book, types.member_place(p));
         }
-        return chooses(book, place(book, index, type_index(book, p)));
+        return false;
     }
     true
 }
 
 // Every clause of the check: the function of a clause that is added joins the others here.
-pub fn clauses_met(book: &[u8], index: &[u32], at: usize, only_xcdr2: bool) -> bool
-    ensures { result ≡ meets (clauses_for only_xcdr2) (types_by book.now index.now) (type_at book.now at) }
+pub fn clauses_met(types: &Types, at: usize, only_xcdr2: bool) -> bool
+    ensures { result ≡ meets (clauses_for only_xcdr2) (types_in types.now) (type_at types.now.book.now at) }
 {
-    members_supported(book, index, at)
-        & element_supported(book, index, at)
-        & base_supported(book, at)
-        & discriminator_fits(book, index, at)
-        & ids_fit(book, at, only_xcdr2)
+    members_supported(types, at)
+        & element_supported(types, at)
+        & base_supported(types.book, at)
+        & discriminator_fits(types, at)
+        & ids_fit(types.book, at, only_xcdr2)
 }

@@ -16,10 +16,6 @@ use Rattle.kinds.specs.Kinds.{align_of, element_size_of, stored_of, is_primitive
 pub listed : (rule : ℕ → ℕ) (column : List ℕ) (k : ℕ) → k < 28 → T (passes (λ i. eqb (get_or column i 0) (rule i)) 0 28) → get_or column k 0 ≡ rule k
 listed rule column k h p = eqb→eq _ _ (between (λ i. eqb (get_or column i 0) (rule i)) 28 0 p k zero-le h)
 
--- a byte that is no kind has what NONE has
-pub unlisted : (rule : ℕ → ℕ) (none k : ℕ) → 28 ≤ k → k < 256 → T (passes (λ i. eqb none (rule i)) 28 228) → none ≡ rule k
-unlisted rule none k h l p = eqb→eq _ _ (between (λ i. eqb none (rule i)) 228 28 p k h l)
-
 -- What readers ask of the columns.
 pub primitive_range : (k : ℕ) → is_primitive k ≡ true → (1 ≤ k) × (k ≤ 15)
 unfolding is_primitive
@@ -109,22 +105,3 @@ element_some k = some (among (4 ∷ 7 ∷ 9 ∷ []) k) (among (5 ∷ 8 ∷ 10 �
     some true eight = lit< tt
     some false true = lit< tt
     some false false = lit< tt
-
--- what the code looks up in an arm is of the kind that it is
-pub by_arm : (rule : ℕ → ℕ) (kind k : ℕ) → kind ≡ k → (y : ℕ) → y ≡ rule k → y ≡ rule kind
-by_arm rule kind k e y is = rw e is
-
--- what no arm of these kinds takes
-abbrev pub Others : List ℕ → ℕ → Type 0
-Others [] k = Unit {0}
-Others (x ∷ xs) k = Others xs k × (k ≡ x → ⊥)
-
-others_none : (xs : List ℕ) (k : ℕ) → Others xs k → among xs k ≡ false
-others_none [] k o = refl
-others_none (x ∷ xs) k o = rw (ne_eqb k x o.1, others_none xs k o.0)
-
--- a byte that no arm names has what NONE has
-pub unnamed : (rule : ℕ → ℕ) (none : ℕ) (xs : List ℕ) (k : ℕ) → k < 256 → Others xs k → T (passes (λ i. among xs i || eqb none (rule i)) 0 256) → none ≡ rule k
-unnamed rule none xs k h o p =
-    let t : T (among xs k || eqb none (rule k)) = between (λ i. among xs i || eqb none (rule i)) 256 0 p k zero-le h in
-    eqb→eq _ _ (rw (others_none xs k o) at t)

@@ -1,6 +1,7 @@
 // What is known of a type by its kind alone: a table of 28 entries in three columns, and the kinds that a rule names. A look-up is by an arm for each kind, which names its
 // entry: a column that is indexed as it runs is built on the stack at each use (`element_of`, which is asked once for a list).
-#![tactic(auto)]
+// Each function is its rule once the rule's tests are opened, so none needs an answer.
+#![tactic(auto, using(std::proofs::lemmas::Bool::Decides::nat_tests), unfolding(crate::specs::Kinds::align_of, crate::specs::Kinds::element_size_of, crate::specs::Kinds::stored_of, crate::specs::Kinds::is_primitive, crate::specs::Kinds::is_signed, crate::specs::Kinds::unsupported_member, crate::specs::Kinds::unsupported_element, crate::specs::Kinds::opens, crate::specs::Kinds::stored_by_bound, crate::specs::Kinds::bitmask_stored))]
 
 ghost use Rattle.std.specs.Prelude.{◌≡◌};
 ghost use Rattle.kinds.specs.Kinds.{align_of, element_size_of, stored_of, is_primitive, is_signed, unsupported_member, unsupported_element, opens, stored_by_bound, bitmask_stored};
@@ -185,38 +186,34 @@ pub fn stored_of(kind: u8) -> u8
 pub fn is_primitive(kind: u8) -> bool
     ensures { result ≡ is_primitive kind }
 {
-    (BOOLEAN <= kind) & (kind <= CHAR16)
+    matches!(kind, BOOLEAN..=CHAR16)
 }
 
 pub fn is_signed(kind: u8) -> bool
     ensures { result ≡ is_signed kind }
 {
-    (kind == INT16) | (kind == INT32) | (kind == INT64) | (kind == INT8)
+    matches!(kind, INT8 | INT16 | INT32 | INT64)
 }
 
 // The kinds that no member may have, where one is read.
 pub fn unsupported_member(kind: u8) -> bool
     ensures { result ≡ unsupported_member kind }
 {
-    (kind == CHAR16) | (kind == ALIAS) | (kind == ANNOTATION) | (kind == BITSET) | (kind == MAP)
+    matches!(kind, CHAR16 | ALIAS | ANNOTATION | BITSET | MAP)
 }
 
 // The kinds that no element of a list may have.
 pub fn unsupported_element(kind: u8) -> bool
     ensures { result ≡ unsupported_element kind }
 {
-    (kind == NONE)
-        | (kind == CHAR16)
-        | (kind == ALIAS)
-        | (kind == ANNOTATION)
-        | ((BITSET <= kind) & (kind <= MAP))
+    matches!(kind, NONE | CHAR16 | ALIAS | ANNOTATION | BITSET..=MAP)
 }
 
 // A structure, an enum or a union.
 pub fn opens(kind: u8) -> bool
     ensures { result ≡ opens kind }
 {
-    (ENUM <= kind) & (kind <= UNION)
+    matches!(kind, ENUM..=UNION)
 }
 
 fn stored_by_bound(bound: u32) -> u8
@@ -234,9 +231,5 @@ fn stored_by_bound(bound: u32) -> u8
 pub fn bitmask_stored(bounded: bool, bound: u32) -> u8
     ensures { result ≡ bitmask_stored bounded bound }
 {
-    if bounded {
-        stored_by_bound(bound)
-    } else {
-        stored_by_bound(32)
-    }
+    stored_by_bound(if bounded { bound } else { 32 })
 }

@@ -1,5 +1,7 @@
 -- The member that comes next: what the searches from two places have in common, and what one header that matches settles. Assumes nothing.
-use Prim.Native.Nat.{ℕ, zero, suc, ◌+◌, ◌-◌, ◌*◌, ◌%◌, ◌<◌, ◌≤◌, ◌^◌}
+use Rattle.std.specs.declared.ops.ControlFlow.TheVariants.{Break, Continue}
+use Rattle.std.specs.Prelude.{min, Err, None, Ok, Some, Option}
+use Prim.Native.Nat.{ℕ, ◌+◌, ◌-◌, ◌*◌, ◌%◌, ◌<◌, ◌≤◌, ◌^◌}
 use mathlib.Core.Path.{◌≡◌, refl, sym, ap, ◌∙◌}
 use mathlib.Core.Bool.{Bool, true, false}
 use mathlib.Core.List.{List}
@@ -16,23 +18,15 @@ use Rattle.wire.specs.declared.settings.Mode.TheVariants.{Crate, Standard}
 use Rattle.wire.specs.declared.settings.Version.{Version}
 use Rattle.wire.specs.declared.settings.Version.TheVariants.{Xcdr1, Xcdr2}
 use Rattle.wire.specs.declared.cursor.Cursor.{Cursor}
-use Rattle.wire.specs.declared.cursor.Place.TheVariants as place
-use Rattle.wire.specs.declared.number.Number.TheVariants as number
 use Rattle.wire.proofs.Moves.{seek_at, seek_short, alignment_own, alignment_four, padding_by}
 use Rattle.wire.proofs.Numbers.{Moved, read_aligned}
-use Rattle.lookup.specs.Search.{past_value, seek_by}
+use Rattle.lookup.specs.Search.{Seek, Turn, past_value, on_to, seek_by}
 use Rattle.lookup.specs.Xcdr1 as xcdr1
 use Rattle.lookup.specs.Xcdr2 as xcdr2
 use Rattle.lookup.specs.Member.{asked_for, located_v1, located_v2, looked_up, locate}
 use Rattle.lookup.specs.Code.Ahead.{search_by, Leads, HeaderId, NextIs, ahead_of, AheadAt, AheadIs, value_at, HeadAt, HeadOrEnd, LongHead, PassedTo, PassedNear}
-use Rattle.lookup.specs.declared.search.Seek.{Seek}
-use Rattle.lookup.specs.declared.search.Seek.TheVariants.{Found, PidNotFound, Short}
-use Rattle.lookup.specs.declared.search.Turn.{Turn}
-use Rattle.lookup.specs.declared.search.Turn.TheVariants.{Done, On}
-use Rattle.lookup.specs.declared.member.Located.TheVariants as located
-use Rattle.lookup.specs.declared.xcdr1.Header.TheVariants as header
 use Rattle.lookup.specs.declared.ahead.Ahead.{Ahead}
-use Rattle.lookup.proofs.Turns.{done_on, on_same, seek_done, seek_on}
+use Rattle.lookup.proofs.Turns.{short_on, place_same, seek_done, seek_on}
 use Rattle.lookup.proofs.Xcdr1Turns as turns1
 use Rattle.lookup.proofs.Xcdr2Turns as turns2
 
@@ -47,7 +41,7 @@ module _ (s : List ℕ) (set : Settings) where
   by_turns Xcdr1 id c = refl
   by_turns Xcdr2 id c = refl
 
-  pub moves_by : (v : Version) (id : ℕ) (c d : Cursor) → turn_by s set v id c ≡ On d → Moved s c 4 d
+  pub moves_by : (v : Version) (id : ℕ) (c d : Cursor) → turn_by s set v id c ≡ Ok (Continue d) → Moved s c 4 d
   unfolding turn_by
   moves_by Xcdr1 id c d e = turns1.turn_moves s set id c d e
   moves_by Xcdr2 id c d e = turns2.turn_moves s set id c d e
@@ -71,26 +65,27 @@ module _ (s : List ℕ) (set : Settings) where
   lead_trans a b c m n f g h id l = f id (omega arith) ∙ g id l
 
 -- what a header settles: it is the wanted one's, and for every later id it is passed over
-module _ (s : List ℕ) (set : Settings) (id : ℕ) (at y : Cursor) (n : ℕ) (kept : y.origin ≡ at.origin) (own : HeaderId set.version id) (miss : (w : ℕ) → id + 1 ≤ asked_for set.version w → turn_by s set set.version w at ≡ past_value s set y n) where
+module _ (s : List ℕ) (set : Settings) (id : ℕ) (at y : Cursor) (n : ℕ) (kept : y.origin ≡ at.origin) (own : HeaderId set.version id) (miss : (w : ℕ) → id + 1 ≤ asked_for set.version w → turn_by s set set.version w at ≡ on_to (past_value s set y n)) where
   next_is : (q : ℕ) → PassedTo s y n q → NextIs s set id at q
   unfolding NextIs PassedTo Leads
   next_is q p = (
     rw kept at p.0,
     λ h w l.
         by_turns s set set.version w at
-        ∙ seek_on s (turn_by s set set.version w) (moves_by s set set.version w) at (cursor_at q at.origin) (miss w l ∙ p.1 h set ∙ ap (λ (o : ℕ). On (cursor_at q o)) kept)
+        ∙ seek_on s (turn_by s set set.version w) (moves_by s set set.version w) at (cursor_at q at.origin) (miss w l ∙ ap on_to (p.1 h set) ∙ ap (λ (o : ℕ). Ok (Continue (cursor_at q o))) kept)
         ∙ sym (by_turns s set set.version w (cursor_at q at.origin)),
   )
 
-  settled : (m value next : ℕ) → turn_by s set set.version id at ≡ Done (Found m (cursor_at value at.origin)) → (set.version ≡ Xcdr1 → 0 < m) → PassedTo s y n next → value + m ≤ length s + 2 ^ 36 → AheadAt s set id at m next value
-  unfolding AheadAt
-  settled m zero next hit some p near = tt
-  settled m (suc v) next hit some p near =
-      (by_turns s set set.version id at ∙ seek_done s (turn_by s set set.version id) at _ hit, some, own, next_is next p, near)
-
-  made : (m value next : ℕ) (r : Ahead) → r ≡ ahead_of value m next → turn_by s set set.version id at ≡ Done (Found m (cursor_at value at.origin)) → (set.version ≡ Xcdr1 → 0 < m) → PassedTo s y n next → value + m ≤ length s + 2 ^ 36 → AheadIs s set id at r
+  made : (m value next : ℕ) (a : Ahead) → a ≡ ahead_of value m next → turn_by s set set.version id at ≡ Ok (Break (Some (m, cursor_at value at.origin))) → (set.version ≡ Xcdr1 → 0 < m) → PassedTo s y n next → value + m ≤ length s + 2 ^ 36 → AheadIs s set id at (Some a)
   unfolding AheadIs
-  made m value next r e hit some p near = rw e (settled m value next hit some p near)
+  made m value next a e hit some p near =
+      rw e (record {
+        found = by_turns s set set.version id at ∙ seek_done s (turn_by s set set.version id) at _ hit;
+        some = some;
+        own = own;
+        next = next_is next p;
+        near = near;
+      })
 
 -- past a value: the alignment to 4 is the same in both versions
 module _ (s : List ℕ) (pos n origin : ℕ) where
@@ -98,11 +93,11 @@ module _ (s : List ℕ) (pos n origin : ℕ) where
   unfolding PassedTo
   passed_end = (record { inside = omega arith; head = λ h. absurd (omega arith) }, λ h. absurd (omega arith))
 
-  passed_on : (set : Settings) (p : ℕ) → p ≡ (4 - (pos + n - origin) % 4) % 4 → pos + n + p ≤ length s → past_value s set (cursor_at pos origin) n ≡ On (cursor_at (pos + n + p) origin)
+  passed_on : (set : Settings) (p : ℕ) → p ≡ (4 - (pos + n - origin) % 4) % 4 → pos + n + p ≤ length s → past_value s set (cursor_at pos origin) n ≡ Ok (cursor_at (pos + n + p) origin)
   unfolding past_value after_move align_to padding_of
   passed_on set p e h =
-      let a : seek_to s (cursor_at pos origin) n ≡ place.At (cursor_at (pos + n) origin) = sym (seek_at s (cursor_at pos origin) n (omega arith)) in
-      let b : seek_to s (cursor_at (pos + n) origin) p ≡ place.At (cursor_at (pos + n + p) origin) = sym (seek_at s (cursor_at (pos + n) origin) p h) in
+      let a : seek_to s (cursor_at pos origin) n ≡ (Ok (cursor_at (pos + n) origin)) = sym (seek_at s (cursor_at pos origin) n (omega arith)) in
+      let b : seek_to s (cursor_at (pos + n) origin) p ≡ (Ok (cursor_at (pos + n + p) origin)) = sym (seek_at s (cursor_at (pos + n) origin) p h) in
       rw (a, alignment_four set.version, ← e, b)
 
   pub passed_to : (p : ℕ) → p ≡ (4 - (pos + n - origin) % 4) % 4 → origin ≤ pos → pos + n + p ≤ length s → PassedTo s (cursor_at pos origin) n (pos + n + p)
@@ -111,18 +106,18 @@ module _ (s : List ℕ) (pos n origin : ℕ) where
       (record { inside = h; head = λ k. record { after = omega arith; aligned = omega arith; inside = k } }, λ k set. passed_on set p e h)
 
   -- to nowhere, where that is past the end
-  not_passed : (set : Settings) (p : ℕ) → p ≡ (4 - (pos + n - origin) % 4) % 4 → length s < pos + n + p → (y : Cursor) → past_value s set (cursor_at pos origin) n ≡ On y → ⊥
+  not_passed : (set : Settings) (p : ℕ) → p ≡ (4 - (pos + n - origin) % 4) % 4 → length s < pos + n + p → (y : Cursor) → past_value s set (cursor_at pos origin) n ≡ Ok y → ⊥
   unfolding past_value after_move align_to padding_of
   not_passed set p e h y q = go (leb (pos + n) (length s)) refl
     where
       go : (t : Bool) → leb (pos + n) (length s) ≡ t → ⊥
       go true l =
-          let a : seek_to s (cursor_at pos origin) n ≡ place.At (cursor_at (pos + n) origin) = sym (seek_at s (cursor_at pos origin) n (leb-true _ _ l)) in
-          let b : seek_to s (cursor_at (pos + n) origin) p ≡ place.Short (short_at s (cursor_at (pos + n) origin) p) = sym (seek_short s (cursor_at (pos + n) origin) p h) in
-          done_on (Short (short_at s (cursor_at (pos + n) origin) p)) y (rw (a, alignment_four set.version, ← e, b) at q)
+          let a : seek_to s (cursor_at pos origin) n ≡ (Ok (cursor_at (pos + n) origin)) = sym (seek_at s (cursor_at pos origin) n (leb-true _ _ l)) in
+          let b : seek_to s (cursor_at (pos + n) origin) p ≡ (Err (short_at s (cursor_at (pos + n) origin) p)) = sym (seek_short s (cursor_at (pos + n) origin) p h) in
+          short_on (short_at s (cursor_at (pos + n) origin) p) y (rw (a, alignment_four set.version, ← e, b) at q)
       go false l =
-          let a : seek_to s (cursor_at pos origin) n ≡ place.Short (short_at s (cursor_at pos origin) n) = sym (seek_short s (cursor_at pos origin) n (leb-false _ _ l)) in
-          done_on (Short (short_at s (cursor_at pos origin) n)) y (rw a at q)
+          let a : seek_to s (cursor_at pos origin) n ≡ (Err (short_at s (cursor_at pos origin) n)) = sym (seek_short s (cursor_at pos origin) n (leb-false _ _ l)) in
+          short_on (short_at s (cursor_at pos origin) n) y (rw a at q)
 
   pub near_where_cut : (p : ℕ) → p ≡ (4 - (pos + n - origin) % 4) % 4 → length s < pos + n + p → PassedNear s (cursor_at pos origin) n (length s)
   unfolding PassedNear
@@ -130,10 +125,32 @@ module _ (s : List ℕ) (pos n origin : ℕ) where
 
   pub near_where_passed : (p : ℕ) → p ≡ (4 - (pos + n - origin) % 4) % 4 → pos + n + p ≤ length s → PassedNear s (cursor_at pos origin) n (pos + n + p)
   unfolding PassedNear
-  near_where_passed p e h = (λ k set y q. near k (on_same _ y (sym (passed_on set p e h) ∙ q)), λ k. omega arith)
+  near_where_passed p e h = (λ k set y q. near k (place_same _ y (sym (passed_on set p e h) ∙ q)), λ k. omega arith)
     where
       near : length s < pos + n + p + 4 → {y : Cursor} → cursor_at (pos + n + p) origin ≡ y → length s < y.pos + 4
       near k {y} f = let g = ap (λ (z : Cursor). z.pos) f in omega (arith, k, g)
+
+  -- .. or the data's end, where that is nearer
+  passed : (m r : ℕ) → m ≡ pos + n - origin + (4 - (pos + n - origin) % 4) % 4 → r ≡ min (origin + m) (length s) → origin ≤ pos → PassedTo s (cursor_at pos origin) n r × PassedNear s (cursor_at pos origin) n r
+  passed m r up is o = go ((4 - (pos + n - origin) % 4) % 4) refl (leb (origin + m) (length s)) refl
+    where
+      go : (p : ℕ) → p ≡ (4 - (pos + n - origin) % 4) % 4 → (t : Bool) → leb (origin + m) (length s) ≡ t → PassedTo s (cursor_at pos origin) n r × PassedNear s (cursor_at pos origin) n r
+      go p e true l =
+          let to : origin + m ≡ pos + n + p = omega (arith, up, e) in
+          let f : r ≡ pos + n + p = omega (arith, is, to, leb-true _ _ l) in
+          let i : pos + n + p ≤ length s = omega (arith, to, leb-true _ _ l) in
+          rw f (passed_to p e o i, near_where_passed p e i)
+      go p e false l =
+          let to : origin + m ≡ pos + n + p = omega (arith, up, e) in
+          let f : r ≡ length s = omega (arith, is, leb-false _ _ l) in
+          rw f (passed_end, near_where_cut p e (omega (arith, to, leb-false _ _ l)))
+
+  module _ (m r : ℕ) (up : m ≡ pos + n - origin + (4 - (pos + n - origin) % 4) % 4) (is : r ≡ min (origin + m) (length s)) (o : origin ≤ pos) where
+    pub passed_at : PassedTo s (cursor_at pos origin) n r
+    passed_at = (passed m r up is o).0
+
+    pub passed_near : PassedNear s (cursor_at pos origin) n r
+    passed_near = (passed m r up is o).1
 
 -- the ids that headers have
 asked2 : (ver : Version) (w : ℕ) → ver ≡ Xcdr2 → asked_for ver w ≡ w
@@ -162,7 +179,7 @@ module _ (s : List ℕ) (set : Settings) (pos origin : ℕ) (head : HeadAt s pos
   unfolding padding_of
   no_padding = rw head.aligned
 
-  pub read4 : read_number s set (cursor_at pos origin) 4 ≡ number.Got (number_at set.order 0 s pos 4) (cursor_at (pos + 4) origin)
+  pub read4 : read_number s set (cursor_at pos origin) 4 ≡ Ok (number_at set.order 0 s pos 4, cursor_at (pos + 4) origin)
   read4 = read_aligned s set (cursor_at pos origin) 4 (rw (alignment_four set.version) no_padding) head.inside
 
   -- where NEXTINT is there too, it stands so as well
@@ -182,7 +199,7 @@ length_near Standard lc n m e = go (within (5 ‥ 7) lc) e
 
 -- an XCDR2 header
 module _ (s : List ℕ) (set : Settings) (pos origin : ℕ) (head : HeadAt s pos origin) (version : set.version ≡ Xcdr2) (v : ℕ) (is : v ≡ number_at set.order 0 s pos 4) where
-  module _ (n : ℕ) (y : Cursor) (told : xcdr2.length_of s set v (cursor_at (pos + 4) origin) ≡ number.Got n y) where
+  module _ (n : ℕ) (y : Cursor) (told : xcdr2.length_of s set v (cursor_at (pos + 4) origin) ≡ Ok (n, y)) where
     pub turned2 : (w : ℕ) → xcdr2.turn_at s set w (cursor_at pos origin) ≡ xcdr2.verdict s set w v n y
     unfolding xcdr2.turn_at after_number
     turned2 w = rw (read4 s set pos origin head, ← is, told)
@@ -191,7 +208,7 @@ module _ (s : List ℕ) (set : Settings) (pos origin : ℕ) (head : HeadAt s pos
     judged2 w = by_turn2 s set set.version w (cursor_at pos origin) version ∙ turned2 w
 
     ahead2 : (m value next : ℕ) (r : Ahead) → r ≡ ahead_of value m next → m ≡ xcdr2.length_from set.mode (xcdr2.lc_of v) n → xcdr2.value_from set.mode (xcdr2.lc_of v) y ≡ cursor_at value origin → y.origin ≡ origin → PassedTo s y n next → value + m ≤ length s + 2 ^ 36
-        → AheadIs s set (xcdr2.id_of v) (cursor_at pos origin) r
+        → AheadIs s set (xcdr2.id_of v) (cursor_at pos origin) (Some r)
     unfolding xcdr2.verdict
     ahead2 m value next r e size back kept p near =
         made s set (xcdr2.id_of v) (cursor_at pos origin) y n kept (own2 set.version v version) (λ w l. judged2 w ∙ (rw (ne_eqb (xcdr2.id_of v) w (let f = asked2 set.version w version in omega arith)))) m value next r e
@@ -199,7 +216,7 @@ module _ (s : List ℕ) (set : Settings) (pos origin : ℕ) (head : HeadAt s pos
 
   -- a length code below 4 tells the length
   pub ahead_fixed : (lc n next i id b : ℕ) → lc ≡ xcdr2.lc_of v → lc < 4 → n ≡ xcdr2.fixed_length lc → n ≤ 8 → i ≡ xcdr2.id_of v → i ≡ id → PassedTo s (cursor_at (pos + 4) origin) n next → b ≡ xcdr2.step_back set.mode lc
-      → (m : ℕ) → m ≡ xcdr2.length_from set.mode lc n → (r : Ahead) → r ≡ ahead_of (pos + 4 - b) m next → AheadIs s set id (cursor_at pos origin) r
+      → (m : ℕ) → m ≡ xcdr2.length_from set.mode lc n → (r : Ahead) → r ≡ ahead_of (pos + 4 - b) m next → AheadIs s set id (cursor_at pos origin) (Some r)
   unfolding xcdr2.length_of xcdr2.length_by_lc
   ahead_fixed lc n next i id b c l e few named wanted p back m size r f =
       let near : pos + 4 - b + m ≤ length s + 2 ^ 36 = omega (arith, length_near set.mode lc n m size, head.inside) in
@@ -207,12 +224,12 @@ module _ (s : List ℕ) (set : Settings) (pos origin : ℕ) (head : HeadAt s pos
 
 -- a length code from 4 on has it in NEXTINT
 module _ (s : List ℕ) (set : Settings) (v pos origin : ℕ) (long : LongHead s set v pos origin) (there : 8 ≤ length s - pos) (m u : ℕ) (is : m ≡ number_at set.order 0 s (pos + 4) 4) (lc : ℕ) (code : lc ≡ xcdr2.lc_of v) (unit : u ≡ xcdr2.unit_of lc) where
-  pub told_long : xcdr2.length_of s set v (cursor_at (pos + 4) origin) ≡ number.Got (m * u) (cursor_at (pos + 4 + 4) origin)
+  pub told_long : xcdr2.length_of s set v (cursor_at (pos + 4) origin) ≡ Ok (m * u, cursor_at (pos + 4 + 4) origin)
   unfolding xcdr2.length_of xcdr2.length_by_lc xcdr2.nextint_times after_number
   told_long = rw (le-ltb _ _ long.code, read4 s set (pos + 4) origin (nextint_head s set pos origin long.head there), ← is, ← code, ← unit)
 
   pub ahead_long : (next b : ℕ) → m * u ≤ 2 ^ 35 → PassedTo s (cursor_at (pos + 4 + 4) origin) (m * u) next → b ≡ xcdr2.step_back set.mode lc
-      → (k : ℕ) → k ≡ xcdr2.length_from set.mode lc (m * u) → (r : Ahead) → r ≡ ahead_of (pos + 4 + 4 - b) k next → AheadIs s set (xcdr2.id_of v) (cursor_at pos origin) r
+      → (k : ℕ) → k ≡ xcdr2.length_from set.mode lc (m * u) → (r : Ahead) → r ≡ ahead_of (pos + 4 + 4 - b) k next → AheadIs s set (xcdr2.id_of v) (cursor_at pos origin) (Some r)
   ahead_long next b few p back k size r f =
       let near : pos + 4 + 4 - b + k ≤ length s + 2 ^ 36 = omega (arith, length_near set.mode lc (m * u) k size, there) in
       ahead2 s set pos origin long.head long.version v long.is (m * u) _ told_long k (pos + 4 + 4 - b) next r f (rw (← code) size) (rw (← code, ← back)) refl p near
@@ -227,13 +244,13 @@ not_end id n h = rw (ne_eqb n 0 h) (go (eqb id 0x3F02))
 
 -- an XCDR1 header: what is aligned to 4 is to 2
 module _ (s : List ℕ) (set : Settings) (pos origin : ℕ) (head : HeadAt s pos origin) (version : set.version ≡ Xcdr1) where
-  read2 : (p : ℕ) → (p - origin) % 2 ≡ 0 → p + 2 ≤ length s → read_number s set (cursor_at p origin) 2 ≡ number.Got (number_at set.order 0 s p 2) (cursor_at (p + 2) origin)
+  read2 : (p : ℕ) → (p - origin) % 2 ≡ 0 → p + 2 ≤ length s → read_number s set (cursor_at p origin) 2 ≡ Ok (number_at set.order 0 s p 2, cursor_at (p + 2) origin)
   read2 p e h = read_aligned s set (cursor_at p origin) 2 (padded set.version version) h
     where
       padded : (v : Version) → v ≡ Xcdr1 → padding_of (cursor_at p origin) (alignment_of v 2) ≡ 0
       padded v f = rw (← (alignment_own v 2 f), ← (padding_by (cursor_at p origin) 2 2 refl), e)
 
-  header1 : xcdr1.header_at s set (cursor_at pos origin) ≡ header.Got (number_at set.order 0 s pos 2 % 16384) (number_at set.order 0 s (pos + 2) 2) (cursor_at (pos + 4) origin)
+  header1 : xcdr1.header_at s set (cursor_at pos origin) ≡ Ok (number_at set.order 0 s pos 2 % 16384, number_at set.order 0 s (pos + 2) 2, cursor_at (pos + 4) origin)
   unfolding xcdr1.header_at after_number
   header1 =
       let a = head.after in
@@ -251,7 +268,7 @@ module _ (s : List ℕ) (set : Settings) (pos origin : ℕ) (head : HeadAt s pos
     judged1 w = by_turn1 s set set.version w (cursor_at pos origin) version ∙ turned1 w
 
     pub ahead1 : (i id next : ℕ) → i ≡ xcdr1.id_of v → i ≡ id → (n ≡ 0 → ⊥) → n < 256 ^ 2 → PassedTo s (cursor_at (pos + 4) origin) n next
-        → (r : Ahead) → r ≡ ahead_of (pos + 4) n next → AheadIs s set id (cursor_at pos origin) r
+        → (r : Ahead) → r ≡ ahead_of (pos + 4) n next → AheadIs s set id (cursor_at pos origin) (Some r)
     unfolding xcdr1.verdict
     ahead1 i id next named wanted some few p r f =
         let near : pos + 4 + n ≤ length s + 2 ^ 36 = omega (arith, head.inside) in
@@ -262,57 +279,31 @@ module _ (s : List ℕ) (set : Settings) (pos origin : ℕ) (head : HeadAt s pos
         (λ w l. judged1 w ∙ (rw (on, ne_eqb (v % 16384) (w % 65536) (let f = asked1 set.version w version in omega arith)))) n (pos + 4) next r f
         (judged1 (v % 16384) ∙ (rw (on, eq-eqb (v % 16384) (v % 16384 % 65536) (omega arith)))) (λ first. omega arith) p near)
 
--- nothing is said, or the same under the wanted id's own name
-pub ahead_none : (s : List ℕ) (set : Settings) (id : ℕ) (at : Cursor) (r : Ahead) → r ≡ ahead_of 0 0 0 → AheadIs s set id at r
-unfolding AheadIs AheadAt
-ahead_none s set id at r e = rw e tt
-
-pub ahead_same : (s : List ℕ) (set : Settings) (v i wanted : ℕ) (at : Cursor) (r : Ahead) → i ≡ xcdr2.id_of v → i ≡ wanted → AheadIs s set (xcdr2.id_of v) at r → AheadIs s set wanted at r
+-- the same under the wanted id's own name
+pub ahead_same : (s : List ℕ) (set : Settings) (v i wanted : ℕ) (at : Cursor) (r : Option Ahead) → i ≡ xcdr2.id_of v → i ≡ wanted → AheadIs s set (xcdr2.id_of v) at r → AheadIs s set wanted at r
 ahead_same s set v i wanted at r e f h = rw (← f, e) h
-
--- where a found value is read
-module _ (version : Version) (pos origin : ℕ) (r : Cursor) where
-  pub value1 : version ≡ Xcdr1 → r ≡ cursor_at pos pos → r ≡ value_at version pos origin
-  unfolding value_at
-  value1 v e = rw v e
-
-  pub value2 : version ≡ Xcdr2 → r ≡ cursor_at pos origin → r ≡ value_at version pos origin
-  unfolding value_at
-  value2 v e = rw v e
 
 -- what the callers have of it: the lookup, and the place to ask for the next member
 module _ (s : List ℕ) (set : Settings) where
-  pub looked : (ver : Version) (id n v o : ℕ) (back : Cursor) → search_by s set ver id back ≡ Found n (cursor_at v o) → (ver ≡ Xcdr1 → 0 < n) → looked_up s set ver id back ≡ located.Found n (value_at ver v o) back
+  pub looked : (ver : Version) (id n v o : ℕ) (back : Cursor) → search_by s set ver id back ≡ Ok (Some (n, cursor_at v o)) → (ver ≡ Xcdr1 → 0 < n) → looked_up s set ver id back ≡ Ok (Some (n, value_at ver v o), back)
   unfolding search_by looked_up located_v1 located_v2 value_at
   looked Xcdr1 id n v o back e h = rw (e, lt-ltb _ _ (h refl))
   looked Xcdr2 id n v o back e h = rw e
 
-  pub ahead_located : (id least v : ℕ) (back at : Cursor) (r : Ahead) → align_to s set.version back 4 ≡ place.At back → Leads s set back at least → least ≤ id
-      → AheadIs s set id at r → r.value ≡ suc v → locate s set id back ≡ located.Found r.length (value_at set.version (suc v) at.origin) back
-  unfolding locate after_move Leads AheadIs AheadAt
-  ahead_located id least v back at r e leads l is some =
-      let a = rw some at is in
-      let u = a.2.uncut in
-      rw e (looked set.version id r.length (suc v) at.origin back (leads id (omega arith) ∙ a.0) a.1)
+  pub ahead_located : (id least : ℕ) (back at : Cursor) (a : Ahead) → align_to s set.version back 4 ≡ Ok back → Leads s set back at least → least ≤ id → AheadAt s set id at a
+      → locate s set id back ≡ Ok (Some (a.length, value_at set.version a.value at.origin), back)
+  unfolding locate after_move Leads
+  ahead_located id least back at a e leads l is =
+      let u = is.own.uncut in
+      rw e (looked set.version id a.length a.value at.origin back (leads id (omega arith) ∙ is.found) is.some)
 
-  pub ahead_small : (id v : ℕ) (at : Cursor) (r : Ahead) → AheadIs s set id at r → r.value ≡ suc v → id < 2 ^ 28
-  unfolding AheadIs AheadAt
-  ahead_small id v at r is some = let a = rw some at is in a.2.small
+  pub ahead_next : (id least : ℕ) (back at : Cursor) (a : Ahead) → Leads s set back at least → least ≤ id + 1 → AheadAt s set id at a → a.next + 4 ≤ length s → Leads s set back (cursor_at a.next at.origin) (id + 1)
+  unfolding NextIs
+  ahead_next id least back at a leads l is known = lead_trans s set back at (cursor_at a.next at.origin) least (id + 1) leads (is.next.1 known) l
 
-  pub ahead_near : (id v : ℕ) (at : Cursor) (r : Ahead) → AheadIs s set id at r → r.value ≡ suc v → r.value + r.length ≤ length s + 2 ^ 36
-  unfolding AheadIs AheadAt
-  ahead_near id v at r is some = let a = rw some at is in rw some a.4
-
-  pub ahead_next : (id least v : ℕ) (back at : Cursor) (r : Ahead) → Leads s set back at least → least ≤ id + 1 → AheadIs s set id at r → r.value ≡ suc v → r.next + 4 ≤ length s
-      → Leads s set back (cursor_at r.next at.origin) (id + 1)
-  unfolding AheadIs AheadAt NextIs
-  ahead_next id least v back at r leads l is some known =
-      let a = rw some at is in
-      lead_trans s set back at (cursor_at r.next at.origin) least (id + 1) leads (a.3.1 known) l
-
-  pub ahead_place : (id v : ℕ) (at : Cursor) (r : Ahead) → AheadIs s set id at r → r.value ≡ suc v → HeadOrEnd s r.next at.origin
-  unfolding AheadIs AheadAt NextIs
-  ahead_place id v at r is some = let a = rw some at is in a.3.0
+  pub ahead_place : (id : ℕ) (at : Cursor) (a : Ahead) → AheadAt s set id at a → HeadOrEnd s a.next at.origin
+  unfolding NextIs
+  ahead_place id at a is = is.next.0
 
   by_v1 : (ver : Version) (id : ℕ) (a b : Cursor) → ver ≡ Xcdr1 → search_by s set ver id a ≡ search_by s set ver id b → xcdr1.seek_to_pid s set id a ≡ xcdr1.seek_to_pid s set id b
   unfolding search_by
@@ -325,6 +316,6 @@ module _ (s : List ℕ) (set : Settings) where
       rw e (go (xcdr1.seek_to_pid s set 0x3F02 to) refl)
     where
       go : (f : Seek) → xcdr1.seek_to_pid s set 0x3F02 to ≡ f → xcdr1.sentinel_place from f ≡ xcdr1.sentinel_place to f
-      go (Found n d) e = refl
-      go (Short x) e = refl
-      go PidNotFound e = absurd (turns1.sentinel_never_missing s set to e)
+      go (Ok (Some (n, d))) e = refl
+      go (Err x) e = refl
+      go (Ok None) e = absurd (turns1.sentinel_never_missing s set to e)

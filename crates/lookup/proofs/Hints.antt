@@ -1,5 +1,6 @@
 -- Laws of the hint: when it is true, what the header there tells, and that the end marker may be looked for from there. Assumes nothing.
-use Prim.Native.Nat.{ℕ, suc, ◌+◌, ◌-◌, ◌%◌, ◌≤◌, ◌<◌}
+use Rattle.std.specs.Prelude.{Ok, Some, Option}
+use Prim.Native.Nat.{ℕ, ◌+◌, ◌-◌, ◌%◌, ◌≤◌}
 use mathlib.Core.Path.{◌≡◌, refl, sym, ap, ◌∙◌}
 use mathlib.Core.Bool.{Bool, true, false, not}
 use mathlib.Core.List.{List}
@@ -7,57 +8,48 @@ use lib.ListN.{length}
 use native.Mathlib.Omega.{arith}
 use native.Mathlib.Nat.{add-zero}
 use Rattle.wire.specs.Place.{cursor_at, padding_of, align_to}
-use Rattle.wire.specs.declared.cursor.Shortage.{Shortage}
 use Rattle.wire.proofs.Moves.{seek_at, alignment_four}
 use Rattle.wire.specs.declared.cursor.Cursor.{Cursor}
-use Rattle.wire.specs.declared.cursor.Place.{Place}
-use Rattle.wire.specs.declared.cursor.Place.TheVariants as place
+use Rattle.wire.specs.Place.{Place}
 use Rattle.wire.specs.declared.settings.Settings.{Settings}
 use Rattle.wire.specs.declared.settings.Version.TheVariants.{Xcdr1}
 use Rattle.lookup.specs.Xcdr1.{seek_to_sentinel}
-use Rattle.lookup.specs.Member.{locate}
-use Rattle.lookup.specs.declared.member.Located.TheVariants as located
 use Rattle.lookup.specs.declared.ahead.Ahead.{Ahead}
 use Rattle.lookup.specs.declared.ahead.Hint.{Hint}
-use Rattle.lookup.specs.declared.ahead.Start.TheVariants as start
-use Rattle.lookup.specs.Code.Ahead.{AheadIs, ahead_of, value_at, HeadAt, HeadOrEnd, first_lookup, StartIs, TrueHint, hint_at, hint_after, HeaderAhead}
-use Rattle.lookup.proofs.Aheads.{lead_refl, ahead_located, ahead_small, ahead_near, ahead_next, ahead_place, lead_sentinel}
+use Rattle.lookup.specs.Code.Ahead.{AheadIs, AheadAt, HeadAt, HeadOrEnd, MayStand, first_lookup, StartIs, TrueHint, hint_at, HeaderAhead}
+use Rattle.lookup.proofs.Aheads.{lead_refl, ahead_located, ahead_next, ahead_place, lead_sentinel}
 
 -- nothing is known at first but the start itself, and at the data's end nothing at all
-pub true_start : (s : List ℕ) (set : Settings) (back : Cursor) (h : Hint) → h ≡ hint_at back.pos → back.origin ≤ back.pos → back.pos ≤ length s → (back.pos - back.origin) % 4 ≡ 0 → TrueHint s set back back.origin h
-true_start s set back h f o i a =
+pub true_start : (s : List ℕ) (set : Settings) (back : Cursor) (h : Hint) → h ≡ hint_at back.pos → MayStand s back → TrueHint s set back back.origin h
+true_start s set back h f may =
+    let o = may.after in
+    let i = may.inside in
+    let a = may.aligned in
     let e : h.next ≡ back.pos = ap (λ (x : Hint). x.next) f in
     record { place = record { inside = omega arith; head = λ k. record { after = omega arith; aligned = rw e a; inside = k } }; leads = λ k. rw e (lead_refl s set back h.least) }
 
 pub true_nowhere : (s : List ℕ) (set : Settings) (back : Cursor) (origin : ℕ) (h : Hint) → h ≡ hint_at (length s) → TrueHint s set back origin h
 true_nowhere s set back origin h f = let e : h.next ≡ length s = ap (λ (x : Hint). x.next) f in record { place = record { inside = omega arith; head = λ k. absurd (omega arith) }; leads = λ k. absurd (omega arith) }
 
-pub ahead_nothing : (s : List ℕ) (set : Settings) (id : ℕ) (h : Hint) (origin : ℕ) (r : Ahead) → r ≡ ahead_of 0 0 0 → HeaderAhead s set id h origin r
-ahead_nothing s set id h origin r e =
-    let z : r.value ≡ 0 = ap (λ (x : Ahead). x.value) e in
-    record { small = λ k. absurd (omega arith); near = λ k. absurd (omega arith); found = λ back al hint k. absurd (omega arith); on = λ back hint k. absurd (omega arith) }
-
 -- a header stands there, where four bytes are left
 pub head_there : (s : List ℕ) (pos origin : ℕ) → HeadOrEnd s pos origin → 4 ≤ length s - pos → HeadAt s pos origin
 head_there s pos origin h k = let i = h.inside in h.head (omega arith)
 
-pub ahead_at : (s : List ℕ) (set : Settings) (id : ℕ) (h : Hint) (origin : ℕ) (r : Ahead) → h.least ≤ id → HeadOrEnd s h.next origin → 4 ≤ length s - h.next → AheadIs s set id (cursor_at h.next origin) r → HeaderAhead s set id h origin r
-ahead_at s set id h origin r from stands left is = record { small = λ k. ahead_small s set id _ _ r is (more k); near = λ k. ahead_near s set id _ _ r is (more k); found = at_it; on = further }
+pub ahead_at : (s : List ℕ) (set : Settings) (id : ℕ) (h : Hint) (origin : ℕ) (r : Option Ahead) → h.least ≤ id → HeadOrEnd s h.next origin → 4 ≤ length s - h.next → AheadIs s set id (cursor_at h.next origin) r → HeaderAhead s set id h origin r
+unfolding AheadIs
+ahead_at s set id h origin r from stands left is =
+    record {
+      small = λ a e. (told a e).own.small;
+      near = λ a e. (told a e).near;
+      found = λ back al hint a e. ahead_located s set id h.least back (cursor_at h.next origin) a al (hint.leads there) from (told a e);
+      on = λ back hint a e. record { place = ahead_place s set id (cursor_at h.next origin) a (told a e); leads = λ f. ahead_next s set id h.least back (cursor_at h.next origin) a (hint.leads there) (omega arith) (told a e) f };
+    }
   where
     there : h.next + 4 ≤ length s
     there = (head_there s h.next origin stands left).inside
 
-    more : 0 < r.value → r.value ≡ suc (r.value - 1)
-    more k = omega arith
-
-    at_it : (back : Cursor) → align_to s set.version back 4 ≡ place.At back → TrueHint s set back origin h → 0 < r.value → locate s set id back ≡ located.Found r.length (value_at set.version r.value origin) back
-    at_it back al hint k =
-        ahead_located s set id h.least (r.value - 1) back (cursor_at h.next origin) r al (hint.leads there) from is (more k)
-        ∙ ap (λ (x : ℕ). located.Found r.length (value_at set.version x origin) back) (sym (more k))
-
-    further : (back : Cursor) → TrueHint s set back origin h → 0 < r.value → TrueHint s set back origin (hint_after r id)
-    further back hint k =
-        record { place = ahead_place s set id _ (cursor_at h.next origin) r is (more k); leads = λ f. ahead_next s set id h.least _ back (cursor_at h.next origin) r (hint.leads there) (omega arith) is (more k) f }
+    told : (a : Ahead) → r ≡ Some a → AheadAt s set id (cursor_at h.next origin) a
+    told a e = rw e at is
 
 -- a search for the end marker from the start is one from where the hint says
 pub hinted_sentinel : (s : List ℕ) (set : Settings) (back : Cursor) (h : Hint) → TrueHint s set back back.origin h → set.version ≡ Xcdr1 → h.least ≤ 0x3F02 → 4 ≤ length s - h.next
@@ -68,20 +60,20 @@ hinted_sentinel s set back h hint v l left d e r is =
 
 -- where the lookups begin
 module _ (s : List ℕ) (set : Settings) (f : Bool) (c : Cursor) where
-  pub already : c.pos ≤ length s → (c.pos - c.origin) % 4 ≡ 0 → align_to s set.version c 4 ≡ place.At c
+  pub already : c.pos ≤ length s → (c.pos - c.origin) % 4 ≡ 0 → align_to s set.version c 4 ≡ Ok c
   unfolding align_to padding_of
-  already i a = rw (alignment_four set.version, a) (sym (seek_at s c 0 (omega arith)) ∙ ap (λ (x : ℕ). place.At (cursor_at x c.origin)) (add-zero c.pos))
+  already i a = rw (alignment_four set.version, a) (sym (seek_at s c 0 (omega arith)) ∙ ap (λ (x : ℕ). (Ok (cursor_at x c.origin))) (add-zero c.pos))
 
-  stays : (g : Bool) → c.pos ≤ length s → (c.pos - c.origin) % 4 ≡ 0 → first_lookup s set g c ≡ place.At c
+  stays : (g : Bool) → c.pos ≤ length s → (c.pos - c.origin) % 4 ≡ 0 → first_lookup s set g c ≡ Ok c
   unfolding first_lookup
   stays true i a = already i a
   stays false i a = refl
 
-  pub start_aligned : c.origin ≤ c.pos → c.pos ≤ length s → (c.pos - c.origin) % 4 ≡ 0 → (h : Hint) → h ≡ hint_at c.pos → StartIs s set f c (start.From c h)
+  pub start_aligned : MayStand s c → (h : Hint) → h ≡ hint_at c.pos → StartIs s set f c (Ok (c, h))
   unfolding StartIs
-  start_aligned o i a h e = (stays f i a, true_start s set c h e o i a)
+  start_aligned may h e = (stays f may.inside may.aligned, true_start s set c h e may)
 
-  pub start_none : not f ≡ true → (h : Hint) → ((any : Settings) → TrueHint s any c c.origin h) → StartIs s set f c (start.From c h)
+  pub start_none : not f ≡ true → (h : Hint) → ((any : Settings) → TrueHint s any c c.origin h) → StartIs s set f c (Ok (c, h))
   unfolding StartIs first_lookup
   start_none e h t = (rw (negated f e), t set)
     where
@@ -98,10 +90,6 @@ module _ (s : List ℕ) (set : Settings) (f : Bool) (c : Cursor) where
         affirmed true q = refl
         affirmed false q = sym q
 
-    pub start_short : (x : Shortage) → p ≡ place.Short x → StartIs s set f c (start.Short x)
-    unfolding StartIs
-    start_short x q = looked ∙ q
-
-    pub start_at : (back : Cursor) → p ≡ place.At back → (h : Hint) → ((any : Settings) → TrueHint s any back back.origin h) → StartIs s set f c (start.From back h)
+    pub start_at : (back : Cursor) → p ≡ Ok back → (h : Hint) → ((any : Settings) → TrueHint s any back back.origin h) → StartIs s set f c (Ok (back, h))
     unfolding StartIs
     start_at back q h t = (looked ∙ q, t set)

@@ -1,7 +1,6 @@
 pub mod Turns
 pub mod Xcdr1Turns
 pub mod Xcdr2Turns
-pub mod Members
 mod Examples
 pub mod Aheads
 pub mod Hints

@@ -1,19 +1,14 @@
 -- The XCDR2 search for a header by its id.
-use Rattle.std.specs.Prelude.{ℕ, ◌+◌, ◌-◌, ◌*◌, ◌/◌, ◌%◌, ◌^◌, List, [], ◌∷◌, get_or, eqb, ltb}
+use Rattle.std.specs.declared.ops.ControlFlow.TheVariants.{Break}
+use Rattle.std.specs.Prelude.{ℕ, ◌+◌, ◌-◌, ◌*◌, ◌/◌, ◌%◌, ◌^◌, List, [], ◌∷◌, get_or, eqb, ltb, Some, Err, Ok}
 use Rattle.ground.specs.Choice.{pick, ◌‥◌, within}
 use Rattle.wire.specs.Place.{cursor_at}
-use Rattle.wire.specs.Number.{read_number, after_number}
+use Rattle.wire.specs.Number.{Number, read_number, after_number}
 use Rattle.wire.specs.declared.settings.Mode.{Mode}
 use Rattle.wire.specs.declared.settings.Mode.TheVariants.{Crate, Standard}
 use Rattle.wire.specs.declared.settings.Settings.{Settings}
 use Rattle.wire.specs.declared.cursor.Cursor.{Cursor}
-use Rattle.wire.specs.declared.number.Number.{Number}
-use Rattle.wire.specs.declared.number.Number.TheVariants as number
-use Rattle.lookup.specs.Search.{ran_short, past_value, seek_by}
-use Rattle.lookup.specs.declared.search.Seek.{Seek}
-use Rattle.lookup.specs.declared.search.Seek.TheVariants.{Found}
-use Rattle.lookup.specs.declared.search.Turn.{Turn}
-use Rattle.lookup.specs.declared.search.Turn.TheVariants.{Done}
+use Rattle.lookup.specs.Search.{Seek, Turn, past_value, on_to, seek_by}
 
 -- "Id is the low 28 bits, LC bits 28 to 30", of the u32 header; bit 31 means nothing
 abbrev pub id_of : ℕ → ℕ
@@ -24,7 +19,7 @@ lc_of emheader = emheader / 2 ^ 28 % 8
 
 -- NEXTINT, a u32 after the header, times the unit
 unfoldable pub nextint_times : List ℕ → Settings → ℕ → Cursor → Number
-nextint_times s set unit c = after_number number.Short (read_number s set c 4) (λ n d. number.Got (n * unit) d)
+nextint_times s set unit c = after_number Err (read_number s set c 4) (λ n d. Ok (n * unit, d))
 
 -- "lengths 1, 2, 4, 8, then NEXTINT times 1, 1, 4, 8"
 abbrev pub fixed_length : ℕ → ℕ
@@ -34,7 +29,7 @@ abbrev pub unit_of : ℕ → ℕ
 unit_of lc = get_or (1 ∷ 1 ∷ 4 ∷ 8 ∷ []) (lc - 4) 0
 
 unfoldable pub length_by_lc : List ℕ → Settings → ℕ → Cursor → Number
-length_by_lc s set lc c = pick (ltb lc 4) (number.Got (fixed_length lc) c) (nextint_times s set (unit_of lc) c)
+length_by_lc s set lc c = pick (ltb lc 4) (Ok (fixed_length lc, c)) (nextint_times s set (unit_of lc) c)
 
 unfoldable pub length_of : List ℕ → Settings → ℕ → Cursor → Number
 length_of s set emheader c = length_by_lc s set (lc_of emheader) c
@@ -56,13 +51,13 @@ length_from Standard lc n = n + step_back Standard lc
 -- what a header comes to: a match "of any length", or another's
 unfoldable pub verdict : List ℕ → Settings → ℕ → ℕ → ℕ → Cursor → Turn
 verdict s set wanted emheader n c =
-    pick (eqb (id_of emheader) wanted) (Done (Found (length_from set.mode (lc_of emheader) n) (value_from set.mode (lc_of emheader) c))) (past_value s set c n)
+    pick (eqb (id_of emheader) wanted) (Ok (Break (Some (length_from set.mode (lc_of emheader) n, value_from set.mode (lc_of emheader) c)))) (on_to (past_value s set c n))
 
 -- "then u32 headers": the header, the NEXTINT that it may have, and what they come to
 unfoldable pub turn_at : List ℕ → Settings → ℕ → Cursor → Turn
 turn_at s set wanted c =
-    after_number ran_short (read_number s set c 4) (λ emheader d.
-    after_number ran_short (length_of s set emheader d) (λ n e. verdict s set wanted emheader n e))
+    after_number Err (read_number s set c 4) (λ emheader d.
+    after_number Err (length_of s set emheader d) (λ n e. verdict s set wanted emheader n e))
 
 -- "The search does not stop at the structure's end." Order 1's "a lookup ends at its DHEADER's end": there the data ends that it is given
 unfoldable pub seek_to_pid : List ℕ → Settings → ℕ → Cursor → Seek

@@ -2,19 +2,12 @@
 ghost use Rattle.std.specs.Prelude.{◌≡◌};
 ghost use Rattle.lookup.specs.Xcdr1.{id_of, header_at, turn_at, seek_to_pid, seek_to_sentinel};
 
-use crate::search::{Seek, Turn};
-use wire::cursor::{Cursor, Place, Shortage};
-use wire::number::Number;
-use wire::settings::Settings;
+use crate::search::{past_value, seek_by};
+use std::ops::ControlFlow;
+use wire::cursor::{Cursor, Shortage};
+use wire::reader::Reader;
 
 pub const PID_LIST_END: u64 = 0x3F02;
-
-#[derive(Clone, Copy)]
-enum Header {
-    // The id, the length, and the cursor after both.
-    Got(u64, u64, Cursor),
-    Short(Shortage),
-}
 
 // The id without its two flags.
 pub fn id(word: u64) -> u64
@@ -23,69 +16,55 @@ pub fn id(word: u64) -> u64
     word % 0x4000
 }
 
-// The id and the length.
-fn read_header(s: &[u8], set: Settings, at: Cursor) -> Header
-    ensures { result ≡ header_at s.now set at }
+// The id, the length, and the cursor after both.
+#[tactic(auto, using(std::proofs::lemmas::Bool::Decides::nat_tests), unfolding(crate::specs::Xcdr1::header_at, wire::specs::Number::after_number))]
+fn read_header(r: Reader, at: Cursor) -> Result<(u64, u64, Cursor), Shortage>
+    ensures { result ≡ header_at r.entry.bytes.now r.entry.set at }
 {
-    let first = wire::number::read_number(s, set, at, 2);
-    match first {
-        Number::Short(x) => Header::Short(x),
-        Number::Got(word, c) => {
-            let second = wire::number::read_number(s, set, c, 2);
-            match second {
-                Number::Short(x) => Header::Short(x),
-                Number::Got(length, d) => Header::Got(id(word), length, d),
-            }
-        }
-    }
+    let (word, c) = r.read_number(at, 2)?;
+    let (length, d) = r.read_number(c, 2)?;
+    Ok((id(word), length, d))
 }
 
 // One header. With another length than 0 the marker is a header as any other.
-fn turn(s: &[u8], set: Settings, pid: u32, at: Cursor) -> Turn
-    ensures { result ≡ turn_at s.now set pid at }
+#[tactic(auto, using(std::proofs::lemmas::Bool::Decides::nat_tests), unfolding(crate::specs::Xcdr1::turn_at, crate::specs::Xcdr1::on_header, crate::specs::Xcdr1::verdict))]
+fn turn(
+    r: Reader,
+    pid: u32,
+    at: Cursor,
+) -> Result<ControlFlow<Option<(u64, Cursor)>, Cursor>, Shortage>
+    ensures { result ≡ turn_at r.entry.bytes.now r.entry.set pid at }
 {
-    let wanted = pid as u64;
-    let head = read_header(s, set, at);
-    match head {
-        Header::Short(x) => Turn::Done(Seek::Short(x)),
-        Header::Got(pid_here, length, c) => {
-            if (pid_here == PID_LIST_END) & (length == 0) {
-                if wanted == PID_LIST_END {
-                    return Turn::Done(Seek::Found(0, c));
-                }
-                return Turn::Done(Seek::PidNotFound);
-            }
-            if pid_here == wanted % 0x1_0000 {
-                return Turn::Done(Seek::Found(length, c));
-            }
-            crate::search::past_value(s, set, c, length)
+    let wanted = u64::from(pid);
+    let (pid_here, length, c) = read_header(r, at)?;
+    if (pid_here == PID_LIST_END) & (length == 0) {
+        if wanted == PID_LIST_END {
+            return Ok(ControlFlow::Break(Some((0, c))));
         }
+        return Ok(ControlFlow::Break(None));
     }
+    if pid_here == wanted % 0x1_0000 {
+        return Ok(ControlFlow::Break(Some((length, c))));
+    }
+    let next = past_value(r, c, length)?;
+    Ok(ControlFlow::Continue(next))
 }
 
-// It ends since each header moves the cursor on.
-pub fn seek_to_pid(s: &[u8], set: Settings, pid: u32, at: Cursor) -> Seek
-    ensures { result ≡ seek_to_pid s.now set pid at }
+pub fn seek_to_pid(r: Reader, pid: u32, at: Cursor) -> Result<Option<(u64, Cursor)>, Shortage>
+    ensures { result ≡ seek_to_pid r.entry.bytes.now r.entry.set pid at }
 {
-    let mut c = at;
-    loop {
-        let step = turn(s, set, pid, c);
-        match step {
-            Turn::Done(found) => return found,
-            Turn::On(d) => c = d,
-        }
-    }
+    seek_by(r, |c| turn(r, pid, c), at)
 }
 
 // A Mutable structure's own search, from where it stands: past the first header of the marker, whatever its length.
-pub fn seek_to_sentinel(s: &[u8], set: Settings, at: Cursor) -> Place
-    ensures { result ≡ seek_to_sentinel s.now set at }
+#[tactic(auto, using(std::proofs::lemmas::Bool::Decides::nat_tests), unfolding(crate::specs::Xcdr1::seek_to_sentinel, crate::specs::Xcdr1::sentinel_place))]
+pub fn seek_to_sentinel(r: Reader, at: Cursor) -> Result<Cursor, Shortage>
+    ensures { result ≡ seek_to_sentinel r.entry.bytes.now r.entry.set at }
 {
-    let found = seek_to_pid(s, set, PID_LIST_END as u32, at);
+    let found = seek_to_pid(r, PID_LIST_END as u32, at)?;
     match found {
-        Seek::Found(_, c) => Place::At(c),
-        Seek::Short(x) => Place::Short(x),
+        Some((_, c)) => Ok(c),
         // Never: who looks for the marker has found it there.
-        Seek::PidNotFound => Place::At(at),
+        None => Ok(at),
     }
 }

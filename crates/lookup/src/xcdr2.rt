@@ -4,10 +4,11 @@ ghost use Rattle.std.specs.Prelude.{◌≡◌, ◌<◌, ◌≤◌, ◌^◌};
 ghost use Rattle.wire.specs.Code.Reads.{Small};
 ghost use Rattle.lookup.specs.Xcdr2.{id_of, lc_of, fixed_length, unit_of, step_back, length_from, nextint_times, length_of, turn_at, seek_to_pid};
 
-use crate::search::{Seek, Turn};
-use wire::cursor::Cursor;
-use wire::number::Number;
-use wire::settings::{Mode, Settings};
+use crate::search::{past_value, seek_by};
+use std::ops::ControlFlow;
+use wire::cursor::{Cursor, Shortage};
+use wire::reader::Reader;
+use wire::settings::Mode;
 
 pub fn id(emheader: u64) -> u64
     ensures { result ≡ id_of emheader }
@@ -23,6 +24,7 @@ pub fn lc(emheader: u64) -> u64
 }
 
 // The length that a length code below 4 tells.
+#[tactic(auto, using(std::proofs::lemmas::Bool::Decides::nat_tests))]
 pub fn fixed_length(lc: u64) -> u64
     requires { lc < 4 }
     ensures { (result ≡ fixed_length lc) × (0 < result) × (result ≤ 8) }
@@ -36,6 +38,7 @@ pub fn fixed_length(lc: u64) -> u64
 }
 
 // The unit of the length that NEXTINT tells.
+#[tactic(auto, using(std::proofs::lemmas::Bool::Decides::nat_tests))]
 pub fn unit(lc: u64) -> u64
     requires { (4 ≤ lc) × (lc < 8) }
     ensures { (result ≡ unit_of lc) × (result ≤ 8) }
@@ -49,6 +52,7 @@ pub fn unit(lc: u64) -> u64
 }
 
 // How far a value that was found begins before the end of its header: which length codes give NEXTINT back to it.
+#[tactic(auto, using(std::proofs::lemmas::Bool::Decides::nat_tests), unfolding(crate::specs::Xcdr2::step_back))]
 pub fn step_back(mode: Mode, lc: u64) -> usize
     ensures { (result ≡ step_back mode lc) × (result ≤ 4) }
 {
@@ -59,6 +63,7 @@ pub fn step_back(mode: Mode, lc: u64) -> usize
 }
 
 // The length that is found, of a header that tells n: in the standard's mode NEXTINT's four bytes are counted too, where they are the member's.
+#[tactic(auto, using(std::proofs::lemmas::Bool::Decides::nat_tests), unfolding(crate::specs::Xcdr2::length_from, crate::specs::Xcdr2::step_back))]
 pub fn length_from(mode: Mode, lc: u64, n: u64) -> u64
     requires { n < 256 ^ 5 }
     ensures { result ≡ length_from mode lc n }
@@ -70,67 +75,50 @@ pub fn length_from(mode: Mode, lc: u64, n: u64) -> u64
 }
 
 // A length in units of `unit` bytes, and the cursor after NEXTINT.
-fn nextint_times(s: &[u8], set: Settings, unit: u64, at: Cursor) -> Number
+#[tactic(auto, using(std::proofs::lemmas::Bool::Decides::nat_tests), unfolding(crate::specs::Xcdr2::nextint_times, wire::specs::Number::after_number))]
+fn nextint_times(r: Reader, unit: u64, at: Cursor) -> Result<(u64, Cursor), Shortage>
     requires { unit ≤ 8 }
-    ensures { (result ≡ nextint_times s.now set unit at) × Small 5 result }
+    ensures { (result ≡ nextint_times r.entry.bytes.now r.entry.set unit at) × Small 5 result }
 {
-    let nextint = wire::number::read_number(s, set, at, 4);
-    match nextint {
-        Number::Short(x) => Number::Short(x),
-        Number::Got(n, c) => Number::Got(n * unit, c),
-    }
+    let (n, c) = r.read_number(at, 4)?;
+    Ok((n * unit, c))
 }
 
 // The length that the header tells, and the cursor after the whole header.
-fn length(s: &[u8], set: Settings, emheader: u64, at: Cursor) -> Number
-    ensures { (result ≡ length_of s.now set emheader at) × Small 5 result }
+#[tactic(auto, using(std::proofs::lemmas::Bool::Decides::nat_tests), unfolding(crate::specs::Xcdr2::length_of, crate::specs::Xcdr2::length_by_lc))]
+fn length(r: Reader, emheader: u64, at: Cursor) -> Result<(u64, Cursor), Shortage>
+    ensures { (result ≡ length_of r.entry.bytes.now r.entry.set emheader at) × Small 5 result }
 {
     let code = lc(emheader);
     if code < 4 {
-        return Number::Got(fixed_length(code), at);
+        return Ok((fixed_length(code), at));
     }
-    nextint_times(s, set, unit(code), at)
+    nextint_times(r, unit(code), at)
 }
 
 // One header. It steps back on a match alone.
-fn turn(s: &[u8], set: Settings, pid: u32, at: Cursor) -> Turn
-    ensures { result ≡ turn_at s.now set pid at }
+#[tactic(auto, using(std::proofs::lemmas::Bool::Decides::nat_tests), unfolding(crate::specs::Xcdr2::turn_at, crate::specs::Xcdr2::verdict, wire::specs::Number::after_number))]
+fn turn(
+    r: Reader,
+    pid: u32,
+    at: Cursor,
+) -> Result<ControlFlow<Option<(u64, Cursor)>, Cursor>, Shortage>
+    ensures { result ≡ turn_at r.entry.bytes.now r.entry.set pid at }
 {
-    let wanted = pid as u64;
-    let mode = set.mode;
-    let head = wire::number::read_number(s, set, at, 4);
-    match head {
-        Number::Short(x) => Turn::Done(Seek::Short(x)),
-        Number::Got(emheader, c) => {
-            let told = length(s, set, emheader, c);
-            match told {
-                Number::Short(x) => Turn::Done(Seek::Short(x)),
-                Number::Got(n, d) => {
-                    if id(emheader) == wanted {
-                        let pos = d.pos;
-                        let origin = d.origin;
-                        let code = lc(emheader);
-                        let back = step_back(mode, code);
-                        let size = length_from(mode, code, n);
-                        return Turn::Done(Seek::Found(size, Cursor::new(pos - back, origin)));
-                    }
-                    crate::search::past_value(s, set, d, n)
-                }
-            }
-        }
+    let mode = r.set.mode;
+    let (emheader, c) = r.read_number(at, 4)?;
+    let (n, d) = length(r, emheader, c)?;
+    if id(emheader) == u64::from(pid) {
+        let code = lc(emheader);
+        let value = Cursor::new(d.pos - step_back(mode, code), d.origin);
+        return Ok(ControlFlow::Break(Some((length_from(mode, code, n), value))));
     }
+    let next = past_value(r, d, n)?;
+    Ok(ControlFlow::Continue(next))
 }
 
-// It ends since each header moves the cursor on.
-pub fn seek_to_pid(s: &[u8], set: Settings, pid: u32, at: Cursor) -> Seek
-    ensures { result ≡ seek_to_pid s.now set pid at }
+pub fn seek_to_pid(r: Reader, pid: u32, at: Cursor) -> Result<Option<(u64, Cursor)>, Shortage>
+    ensures { result ≡ seek_to_pid r.entry.bytes.now r.entry.set pid at }
 {
-    let mut c = at;
-    loop {
-        let step = turn(s, set, pid, c);
-        match step {
-            Turn::Done(found) => return found,
-            Turn::On(d) => c = d,
-        }
-    }
+    seek_by(r, |c| turn(r, pid, c), at)
 }

@@ -1,4 +1,5 @@
 -- Laws of the quick way for a list: where its elements are numbers that are there, the value is what `value_of` says. Assumes nothing.
+use Rattle.std.specs.Prelude.{Ok}
 use Prim.Native.Nat.{ℕ, zero, suc, ◌+◌, ◌≤◌, ◌<◌, ◌^◌}
 use mathlib.Core.Path.{◌≡◌, refl, sym, ap, ◌∙◌}
 use mathlib.Core.Logic.{◌⊎◌, inl, inr}
@@ -14,14 +15,12 @@ use Rattle.ground.proofs.Between.{passes, between}
 use Rattle.ground.proofs.Tests.{apart}
 use Rattle.wire.specs.declared.cursor.Cursor.{Cursor}
 use Rattle.wire.specs.declared.settings.Settings.{Settings}
-use Rattle.wire.specs.declared.dheader.Contents.TheVariants as contents
-use Rattle.wire.specs.declared.number.Number.TheVariants as number
 use Rattle.wire.specs.Place.{cursor_at, alignment_of, padding_of}
 use Rattle.wire.specs.Number.{number_at}
 use Rattle.wire.specs.Ends.{keeps_ends, cut_at}
 use Rattle.wire.specs.Dheader.{contents_at}
 use Rattle.wire.proofs.Numbers.{read_there}
-use Rattle.wire.proofs.Contents.{cut_whole, cut_past}
+use Rattle.wire.proofs.Contents.{cut_whole}
 use Rattle.kinds.specs.Kinds.{is_primitive, unsupported_member, unsupported_element, opens}
 use Rattle.kinds.proofs.Table.{primitive_range}
 use Rattle.book.specs.Types.{BookType}
@@ -30,8 +29,7 @@ use Rattle.book.specs.Asked.{is_sequence, primitive_element, read_as}
 use Rattle.table.specs.declared.rows.Row.{Row}
 use Rattle.table.specs.Rows.{room, row_at}
 use Rattle.table.specs.Outcome.{read}
-use Rattle.table.specs.declared.out.Out.{Out}
-use Rattle.table.specs.declared.out.Out.TheVariants.{Read}
+use Rattle.table.specs.Code.Outcome.{Out}
 use Rattle.table.specs.Code.Outcome.{Done}
 use Rattle.table.proofs.Filling.{filled_fits}
 use Rattle.table.proofs.Outcomes.{was_read}
@@ -93,15 +91,11 @@ module _ (k : ℕ) where
   closed_kind (inr e) = rw e
 
 whole : (s : List ℕ) (set : Settings) → s ≡ cut_at set s (0 + length s)
-whole s set = go (keeps_ends set) refl
-  where
-    go : (k : Bool) → k ≡ keeps_ends set → s ≡ cut_at set s (0 + length s)
-    go true e = cut_past s set 0 (length s) true e refl (omega arith)
-    go false e = cut_whole s set 0 (length s) false e refl
+whole s set = let z : 0 + length s ≡ length s = omega arith in rw z (sym (cut_whole set s))
 
 module _ (b index s : List ℕ) (set : Settings) (ty id : ℕ) (c : Cursor) (t : List ℕ) (n at of : ℕ) (placed : PlaceOf b index ty at) (kind-of : of ≡ (type_at b at).kind)
     (el q k : ℕ) (element : el ≡ (type_at b at).element) (there : PlaceOf b index el q) (kind : k ≡ (type_at b q).kind) (x : Bool) (e : x ≡ is_primitive k) (h : (not x || eqb k 15) ≡ false) where
-  undelimited_by : contents_at s set (not (is_primitive k)) c ≡ contents.Between c (length s)
+  undelimited_by : contents_at s set (not (is_primitive k)) c ≡ Ok (c, length s)
   unfolding contents_at
   undelimited_by = rw (primitive k x e h)
 
@@ -117,11 +111,11 @@ module _ (b index s : List ℕ) (set : Settings) (ty id : ℕ) (c : Cursor) (t :
   read_own = kind ∙ sym (primitive_read (type_at b q) (rw kind at (primitive k x e h)))
 
   -- how many, and where the first stands
-  module _ (listed : Listed of) (count : ℕ) (d : Cursor) (counts : count_at s set (is_sequence (type_at b at)) (type_at b at).bound c ≡ number.Got count d) (u : List ℕ) (r : ℕ)
+  module _ (listed : Listed of) (count : ℕ) (d : Cursor) (counts : count_at s set (is_sequence (type_at b at)) (type_at b at).bound c ≡ Ok (count, d)) (u : List ℕ) (r : ℕ)
       (taken : (bytes : Bool) → Quickly (plain_of bytes s set k id count d (room t n)) (1 + count) n d.origin t u r) (told : 0 < r → (row_at u n).b ≡ count) (nest : Nest) where
-    list_done : 0 < r → Done (value_of (types_by b index) s set nest ty id c (room t n)) n t u (Read (cursor_at r d.origin) (n + (1 + count)))
+    list_done : 0 < r → Done (value_of (types_by b index) s set nest ty id c (room t n)) n t u (Ok (cursor_at r d.origin, n + (1 + count)))
     list_done y =
-        let o : Out = Read (cursor_at r d.origin) (n + (1 + count)) in
+        let o : Out = (Ok (cursor_at r d.origin, n + (1 + count))) in
         let w : Done (plain_of (eqb k 2 || eqb k 13) s set k id count d (room t n)) n t u o = quick_done (1 + count) r y (taken (eqb k 2 || eqb k 13)) in
         let v : Done (elements_of (types_by b index) s set nest el id count d (room t n)) n t u o =
         elements_plain b index s set nest el id d t n q k there kind count (unsupported_element k) refl (supported k x e h) (opens k) refl (unopened k x e h) k read_own u o w in
@@ -137,8 +131,8 @@ module _ (b index s : List ℕ) (set : Settings) (ty id : ℕ) (c : Cursor) (t :
         go zero g = rw g (quick_none _ (1 + count) n d.origin t u r (omega (arith, g)) (taken true))
         go (suc p) g =
             let y : 0 < r = omega (arith, g) in
-            let z : Read (cursor_at r c.origin) (n + (1 + (row_at u n).b)) ≡ Read (cursor_at r d.origin) (n + (1 + count)) =
-            ap (λ (m : ℕ). Read (cursor_at r m) (n + (1 + (row_at u n).b))) (sym f) ∙ ap (λ (m : ℕ). Read (cursor_at r d.origin) (n + (1 + m))) (told y) in
+            let z : ◌≡◌ {A = Out} (Ok (cursor_at r c.origin, n + (1 + (row_at u n).b))) (Ok (cursor_at r d.origin, n + (1 + count))) =
+            ap (λ (m : ℕ). (Ok (cursor_at r m, n + (1 + (row_at u n).b)))) (sym f) ∙ ap (λ (m : ℕ). (Ok (cursor_at r d.origin, n + (1 + m)))) (told y) in
             quick_is (1 + (row_at u n).b) r y (rw z (list_done y))
 
   module _ (u : List ℕ) (r : ℕ) where
@@ -160,7 +154,7 @@ module _ (b index s : List ℕ) (set : Settings) (ty id : ℕ) (c : Cursor) (t :
     list_sequence l y p count d starts inside is at-d z nest =
         let g : of ≡ 25 = eqb→eq of 25 (sequence (eqb of 25) refl) in
         let w : eqb (type_at b at).kind 25 ≡ true = rw (← kind-of, g) in
-        list_quickly (inl g) count d (rw w (read_there s set c 4 p count (starts inside) inside is ∙ ap (number.Got count) (sym at-d))) u r z.0 z.1 nest (ap (λ (m : Cursor). m.origin) at-d)
+        list_quickly (inl g) count d (rw w (read_there s set c 4 p count (starts inside) inside is ∙ ap ((λ y. Ok (count, y))) (sym at-d))) u r z.0 z.1 nest (ap (λ (m : Cursor). m.origin) at-d)
       where
         sequence : (m : Bool) → eqb of 25 ≡ m → T (eqb of 25)
         sequence true f = rw f tt
@@ -172,7 +166,7 @@ list_none types s set ty id c t n nest = quick_not _ _ n c.origin t
 -- what the quick way took is the value; or it left all as it was
 module _ (types : List BookType) (s : List ℕ) (set : Settings) (ty id : ℕ) (c : Cursor) (t : List ℕ) (n : ℕ) (u : List ℕ) (r : ℕ)
     (q : (f : Nest) → Quickly (value_of types s set f ty id c (room t n)) (1 + (row_at u n).b) n c.origin t u r) where
-  pub list_taken : 0 < r → (nest : Nest) (d : Cursor) → d ≡ cursor_at r c.origin → (y : Row) → y ≡ row_at u n → Done (value_of types s set nest ty id c (room t n)) n t u (Read d (n + 1 + y.b))
+  pub list_taken : 0 < r → (nest : Nest) (d : Cursor) → d ≡ cursor_at r c.origin → (y : Row) → y ≡ row_at u n → Done (value_of types s set nest ty id c (room t n)) n t u (Ok (d, n + 1 + y.b))
   list_taken h nest d e y f =
       let z : n + 1 + (row_at u n).b ≡ n + (1 + (row_at u n).b) = omega arith in
       rw (e, f, z) (quick_done (1 + (row_at u n).b) r h (q nest))

@@ -1,4 +1,7 @@
 -- Laws of members: what each return shows. Assumes nothing.
+use Rattle.std.specs.Prelude.{Err, None, Ok, Some, Option as Found}
+use Rattle.table.specs.declared.out.Trouble.TheVariants as trouble
+use Rattle.wire.specs.declared.cursor.Unread.TheVariants as unread
 use Prim.Native.Nat.{ℕ, ◌+◌, ◌<◌}
 use mathlib.Core.Path.{◌≡◌, refl, sym, ap, ◌∙◌}
 use mathlib.Core.Bool.{Bool, true, false, not}
@@ -13,30 +16,27 @@ use Rattle.ground.proofs.Tests.{both_left}
 use Rattle.wire.specs.declared.cursor.Cursor.{Cursor}
 use Rattle.wire.specs.declared.cursor.Shortage.{Shortage}
 use Rattle.wire.specs.declared.settings.Settings.{Settings}
-use Rattle.table.specs.declared.out.Refusal.{Refusal}
-use Rattle.table.specs.declared.out.Out.{Out}
-use Rattle.table.specs.declared.out.Out.TheVariants.{Read, Short, Refused}
+use Rattle.wire.specs.declared.cursor.Unread.{Unread}
+use Rattle.reader.specs.Code.Ending.{coming_back}
+use Rattle.reader.proofs.BeginningSteps.{came_done}
+use Rattle.table.specs.Code.Outcome.{Out}
 use Rattle.table.specs.Rows.{room}
-use Rattle.table.specs.Outcome.{Outcome, short, back_to}
-use Rattle.table.specs.Code.Outcome.{Done}
+use Rattle.table.specs.Outcome.{Outcome, back_to}
+use Rattle.table.specs.Code.Outcome.{Done, unread_trouble}
 use Rattle.table.proofs.Filling.{filled_none}
-use Rattle.table.proofs.Outcomes.{is_read, is_short, is_refused, is_same, was_read, was_short, was_refused}
+use Rattle.table.proofs.Outcomes.{is_read, is_short, is_refused, is_same}
 use Rattle.wire.specs.declared.settings.Version.{Version}
 use Rattle.wire.specs.declared.settings.Version.TheVariants.{Xcdr1, Xcdr2}
 use Rattle.wire.specs.declared.settings.Mode.{Mode}
 use Rattle.wire.specs.declared.settings.Mode.TheVariants.{Crate, Standard}
 use Rattle.wire.specs.Ends.{cut_at}
-use Rattle.wire.specs.declared.number.Boolean.{Boolean}
-use Rattle.wire.specs.declared.number.Boolean.TheVariants as boolean
+use Rattle.wire.specs.Number.{Boolean}
 use Rattle.wire.specs.Number.{read_boolean}
-use Rattle.wire.specs.Place.{brought_back}
 use Rattle.book.specs.Types.{BookType, Member, bounded, optional, type_no}
 use Rattle.book.specs.Places.{member_at, type_at, types_by, PlaceOf}
 use Rattle.book.specs.Asked.{is_sequence, read_as}
 use Rattle.lookup.specs.Member.{locate}
-use Rattle.lookup.specs.declared.member.Located.{Located}
-use Rattle.lookup.specs.declared.member.Located.TheVariants as located
-use Rattle.table.specs.declared.out.Refusal.TheVariants.{InvalidData}
+use Rattle.lookup.specs.Member.{Located}
 use Rattle.kinds.specs.Kinds.{opens, unsupported_member, bitmask_stored, stored_by_bound}
 use Rattle.reader.specs.Value.{Nest, elements_of, value_of}
 use Rattle.reader.specs.Code.Run.{run_of}
@@ -152,30 +152,21 @@ module _ (b index s : List ℕ) (set : Settings) (nest : Nest) (p : ℕ) (c : Cu
     at_id : locate s set m.id c ≡ g
     at_id = ap (λ (x : ℕ). locate s set x c) (sym named) ∙ sym is
 
-    pub mmember_short : (x : Shortage) → g ≡ located.Short x → Done looked n t t (Short x)
+    pub mmember_short : (x : Shortage) → g ≡ Err x → Done looked n t t (Err (trouble.Short x))
     unfolding mmember_of on_located
     mmember_short x e = is_short (rw (at_id ∙ e)) (filled_none t n)
 
-    pub mmember_absent : (back : Cursor) → g ≡ located.Absent back → Done looked n t t (Read back n)
+    pub mmember_absent : (back : Cursor) → g ≡ Ok (None, back) → Done looked n t t (Ok (back, n))
     unfolding mmember_of on_located
     mmember_absent back e = is_read {rs = []} (rw (at_id ∙ e)) (sym (add-zero n)) (filled_none t n)
 
-    module _ (length : ℕ) (d back : Cursor) (e : g ≡ located.Found length d back) (w : List ℕ) (own : w ≡ cut_at set s (d.pos + length)) (u : List ℕ) (r : Out) (h : Done (found_value (types_by b index) w set nest m length d (room t n)) n t u r) where
+    module _ (length : ℕ) (d back : Cursor) (e : g ≡ Ok (Some (length, d), back)) (w : List ℕ) (own : w ≡ cut_at set s (d.pos + length)) (u : List ℕ) (r : Out) (h : Done (found_value (types_by b index) w set nest m length d (room t n)) n t u r) where
       came : looked ≡ back_to back (found_value (types_by b index) w set nest m length d (room t n))
       unfolding mmember_of on_located found_of
       came = rw (at_id ∙ e, ← own)
 
-      pub mmember_read : (f : Cursor) (k : ℕ) → r ≡ Read f k → Done looked n t u (Read back k)
-      unfolding back_to
-      mmember_read f k q = let w = was_read h q in is_read (came ∙ ap (back_to back) w.is) w.count w.filled
-
-      pub mmember_fell : (x y : Shortage) → r ≡ Short x → y ≡ brought_back x back → Done looked n t u (Short y)
-      unfolding back_to
-      mmember_fell x y q j = let w = was_short h q in is_short (came ∙ ap (back_to back) w.is ∙ ap short (sym j)) w.filled
-
-      pub mmember_refused : (k : Refusal) → r ≡ Refused k → Done looked n t u (Refused k)
-      unfolding back_to
-      mmember_refused k q = let w = was_refused h q in is_refused (came ∙ ap (back_to back) w.is) w.filled
+      pub mmember_came : (y : Out) → y ≡ coming_back back r → Done looked n t u y
+      mmember_came y q = is_same came (came_done back h q)
 
   -- an optional member
   abbrev asked_for_law : Outcome
@@ -190,23 +181,20 @@ module _ (b index s : List ℕ) (set : Settings) (nest : Nest) (p : ℕ) (c : Cu
     unfolding optional_by
     present = ap (λ (v : Version). optional_by (types_by b index) s set nest v m c (room t n)) e ∙ ap (on_present (types_by b index) s set nest m (room t n)) (sym is)
 
-    pub optional_short : (x : Shortage) → g ≡ boolean.Short x → Done asked_for_law n t t (Short x)
+    pub optional_unread : (x : Unread) → g ≡ Err x → Done asked_for_law n t t (Err (unread_trouble x))
     unfolding on_present
-    optional_short x f = is_short (present ∙ ap (on_present (types_by b index) s set nest m (room t n)) f) (filled_none t n)
+    optional_unread (unread.Short x) f = is_short (present ∙ ap (on_present (types_by b index) s set nest m (room t n)) f) (filled_none t n)
+    optional_unread unread.Bad f = is_refused (present ∙ ap (on_present (types_by b index) s set nest m (room t n)) f) (filled_none t n)
 
-    pub optional_bad : g ≡ boolean.Bad → Done asked_for_law n t t (Refused InvalidData)
-    unfolding on_present
-    optional_bad f = is_refused (present ∙ ap (on_present (types_by b index) s set nest m (room t n)) f) (filled_none t n)
-
-    module _ (y : Bool) (d : Cursor) (f : g ≡ boolean.Got y d) where
-      pub optional_absent : y ≡ false → Done asked_for_law n t t (Read d n)
+    module _ (y : Bool) (d : Cursor) (f : g ≡ Ok (y, d)) where
+      pub optional_absent : y ≡ false → Done asked_for_law n t t (Ok (d, n))
       unfolding on_present
-      optional_absent h = is_read {rs = []} (present ∙ ap (on_present (types_by b index) s set nest m (room t n)) (f ∙ ap (λ (z : Bool). boolean.Got z d) h)) (sym (add-zero n)) (filled_none t n)
+      optional_absent h = is_read {rs = []} (present ∙ ap (on_present (types_by b index) s set nest m (room t n)) (f ∙ ap (λ (z : Bool). (Ok (z, d))) h)) (sym (add-zero n)) (filled_none t n)
 
       pub optional_present : y ≡ true → (ty i : ℕ) → ty ≡ (member_at b p).type → i ≡ (member_at b p).id → (u : List ℕ) (r : Out) → Done (value_of (types_by b index) s set nest ty i d (room t n)) n t u r → Done asked_for_law n t u r
       unfolding on_present
       optional_present h ty i j k u r w =
-          is_same (present ∙ ap (on_present (types_by b index) s set nest m (room t n)) (f ∙ ap (λ (z : Bool). boolean.Got z d) h) ∙ rw (← j, ← k)) w
+          is_same (present ∙ ap (on_present (types_by b index) s set nest m (room t n)) (f ∙ ap (λ (z : Bool). (Ok (z, d))) h) ∙ rw (← j, ← k)) w
 
   -- a member of a Final or Appendable type
   module _ (o : Bool) (is : o ≡ optional (member_at b p)) where
@@ -224,3 +212,12 @@ module _ (b index s : List ℕ) (set : Settings) (nest : Nest) (p : ℕ) (c : Cu
     pub fmember_value : o ≡ false → (ty i : ℕ) → ty ≡ (member_at b p).type → i ≡ (member_at b p).id → (u : List ℕ) (r : Out) → Done (value_of (types_by b index) s set nest ty i c (room t n)) n t u r → Done final n t u r
     unfolding fmember_by
     fmember_value e ty i j k u r d = is_same (by false e ∙ rw (← j, ← k)) d
+
+-- read, and back where the lookup began
+pub is_back : (c d : Cursor) (n : ℕ) → ◌≡◌ {A = Out} (Ok (c, n)) (coming_back c (Ok (d, n)))
+unfolding coming_back
+is_back c d n = refl
+
+-- what was located, or that nothing was
+pub with_found : {g : Located} {f h : Found (ℕ × Cursor)} {back : Cursor} → g ≡ Ok (f, back) → f ≡ h → g ≡ Ok (h, back)
+with_found {back = back} e k = e ∙ ap (λ (x : Found (ℕ × Cursor)). Ok (x, back)) k

@@ -1,4 +1,7 @@
 -- Laws of opening a value: what each return shows. Assumes nothing.
+use Rattle.std.specs.Prelude.{Err, Ok}
+use Rattle.table.specs.declared.out.Trouble.TheVariants as trouble
+use Rattle.wire.specs.declared.cursor.Unread.TheVariants as unread
 use Prim.Native.Nat.{ℕ, zero, suc, ◌+◌, ◌-◌, ◌*◌, ◌≤◌}
 use mathlib.Core.Path.{◌≡◌, refl, sym, ap, ◌∙◌}
 use mathlib.Core.Bool.{Bool, true, false, not, ◌&&◌}
@@ -8,23 +11,21 @@ use lib.ListN.{length}
 use lib.Dec.{eqb}
 use borrow.Author.Tests.{eq-eqb, ne_eqb, eqb-true}
 use Rattle.wire.specs.declared.cursor.Cursor.{Cursor}
-use Rattle.wire.specs.declared.cursor.Shortage.{Shortage}
 use Rattle.wire.specs.declared.settings.Settings.{Settings}
 use Rattle.wire.specs.declared.settings.Mode.{Mode}
 use Rattle.wire.specs.declared.settings.Version.{Version}
 use Rattle.wire.specs.declared.settings.Version.TheVariants.{Xcdr1, Xcdr2}
-use Rattle.table.specs.declared.out.Refusal.{Refusal}
-use Rattle.table.specs.declared.out.Out.{Out}
-use Rattle.table.specs.declared.out.Out.TheVariants.{Read, Short, Refused}
+use Rattle.table.specs.declared.out.Trouble.{Trouble}
+use Rattle.wire.specs.declared.cursor.Unread.{Unread}
+use Rattle.table.specs.Code.Outcome.{Out}
 use Rattle.table.specs.declared.rows.Row.{Row}
 use Rattle.table.specs.Rows.{row, width, room, no_room, row_at}
 use Rattle.table.specs.Code.Rows.{put_row, counting}
 use Rattle.table.specs.Outcome.{Outcome, read, refused, room_for, closed, prepend, and_then}
-use Rattle.table.specs.Code.Outcome.{Done}
+use Rattle.table.specs.Code.Outcome.{Done, unread_trouble}
 use Rattle.table.proofs.Filling.{filled_none, full_fits, length_put_row}
-use Rattle.table.proofs.Outcomes.{is_read, is_short, is_refused, is_same, was_read, was_short, was_refused, then_read, then_short, then_refused, then_nil, row_full, row_read, row_short, row_refused}
-use Rattle.wire.specs.declared.dheader.Contents.{Contents}
-use Rattle.wire.specs.declared.dheader.Contents.TheVariants as contents
+use Rattle.table.proofs.Outcomes.{is_read, is_short, is_refused, is_same, was_read, was_failed, is_failed, then_failed, row_failed, then_read, then_nil, row_full, row_read}
+use Rattle.wire.specs.Dheader.{Contents}
 use Rattle.wire.specs.Place.{cursor_at}
 use Rattle.wire.specs.Ends.{keeps_ends_by, keeps_ends, cut_at}
 use Rattle.wire.proofs.Contents.{contents_short, contents_between, contents_past}
@@ -35,7 +36,7 @@ use Rattle.kinds.specs.Kinds.{stored_of, opens}
 use Rattle.book.specs.Types.{BookType, type_no}
 use Rattle.book.specs.Places.{type_at, types_by, PlaceOf}
 use Rattle.book.specs.Asked.{is_mutable, is_structure, is_delimited}
-use Rattle.table.specs.declared.out.Refusal.TheVariants.{InvalidData, InvalidType, TooDeep, NoRoom}
+use Rattle.table.specs.declared.out.Refusal.TheVariants.{InvalidType, TooDeep, NoRoom}
 use Rattle.values.specs.Scalar.{enum_of}
 use Rattle.reader.specs.Value.{Nest}
 use Rattle.reader.specs.Union.{members_by}
@@ -76,7 +77,7 @@ module _ (s : List ℕ) (set : Settings) (end : ℕ) (kept : keeps_ends set ≡ 
       go Xcdr1 m e = absurd (let z : ◌≡◌ {A = ℕ} 0 1 = cc in omega arith)
       go Xcdr2 m e = refl
 
-  stands_there : {o : Outcome} {n : ℕ} {t u : List ℕ} {r : Out} → Done o n t u r → (c : Cursor) (m : ℕ) → r ≡ Read c m → (d : Cursor) → d ≡ cursor_at end c.origin → Done (and_then o (λ e used. ending_by s set set.version end e)) n t u (Read d m)
+  stands_there : {o : Outcome} {n : ℕ} {t u : List ℕ} {r : Out} → Done o n t u r → (c : Cursor) (m : ℕ) → r ≡ Ok (c, m) → (d : Cursor) → d ≡ cursor_at end c.origin → Done (and_then o (λ e used. ending_by s set set.version end e)) n t u (Ok (d, m))
   unfolding and_then prepend
   stands_there h c m q d made =
       let w = was_read h q in
@@ -109,15 +110,13 @@ module _ (types : List BookType) (s : List ℕ) (set : Settings) (nest : Nest) (
     unfolding body_by
     no_enum = by false (ne_eqb (type_at b at).kind 21 (λ e. other (kind ∙ e)))
 
-    pub body_short : (x : Shortage) → g ≡ contents.Short x → Done body n t t (Short x)
+    -- what begins it ran short, or its end is past the data's
+    pub body_unread : (x : Unread) → g ≡ Err x → Done body n t t (Err (unread_trouble x))
     unfolding delimited_of
-    body_short x q = is_short (no_enum ∙ contents_short _ _ _ (sym is ∙ q)) (filled_none t n)
+    body_unread (unread.Short x) q = is_short (no_enum ∙ contents_short _ _ _ (sym is ∙ q)) (filled_none t n)
+    body_unread unread.Bad q = is_refused (no_enum ∙ contents_past _ _ _ (sym is ∙ q)) (filled_none t n)
 
-    pub body_past : g ≡ contents.Past → Done body n t t (Refused InvalidData)
-    unfolding delimited_of
-    body_past q = is_refused (no_enum ∙ contents_past _ _ _ (sym is ∙ q)) (filled_none t n)
-
-    module _ (d : Cursor) (end : ℕ) (q : g ≡ contents.Between d end) (w : List ℕ) (cut : w ≡ cut_at set s (0 + end)) (y : Bool) (mutable : y ≡ is_mutable (type_at b at)) where
+    module _ (d : Cursor) (end : ℕ) (q : g ≡ Ok (d, end)) (w : List ℕ) (cut : w ≡ cut_at set s (0 + end)) (y : Bool) (mutable : y ≡ is_mutable (type_at b at)) where
       between : body ≡ and_then (members_of types w set nest (type_at b at) d (room t n)) (λ e used. ending_of w set (type_at b at) end e)
       unfolding delimited_of contents_of
       between = no_enum ∙ contents_between _ _ _ (sym is ∙ q) ∙ ap (λ (x : List ℕ). contents_of types x set nest (type_at b at) end d (room t n)) (sym (cut ∙ ap (cut_at set s) (let z : 0 + end ≡ end = omega arith in z)))
@@ -135,20 +134,17 @@ module _ (types : List BookType) (s : List ℕ) (set : Settings) (nest : Nest) (
 
       -- any other ends by its DHEADER, or where its members end
       module _ (others : (eqb k 22 && y) ≡ false) (u : List ℕ) (r : Out) (h : Done (members_of types w set nest (type_at b at) d (room t n)) n t u r) where
-        pub body_fell : (x : Shortage) → r ≡ Short x → Done body n t u (Short x)
-        body_fell x f = let v = was_short h f in is_short (between ∙ then_short _ v.is) v.filled
+        pub body_failed : (x : Trouble) → r ≡ Err x → Done body n t u (Err x)
+        body_failed x f = let v = was_failed h f in is_failed (between ∙ then_failed _ x v.is) v.filled
 
-        pub body_refused : (x : Refusal) → r ≡ Refused x → Done body n t u (Refused x)
-        body_refused x f = let v = was_refused h f in is_refused (between ∙ then_refused _ v.is) v.filled
-
-        pub body_there : (e : Cursor) (m : ℕ) → r ≡ Read e m → (z o : Bool) → z ≡ keeps_ends set → o ≡ is_delimited (type_at b at) → (z && o) ≡ true → (x : Cursor) → x ≡ cursor_at end e.origin → Done body n t u (Read x m)
+        pub body_there : (e : Cursor) (m : ℕ) → r ≡ Ok (e, m) → (z o : Bool) → z ≡ keeps_ends set → o ≡ is_delimited (type_at b at) → (z && o) ≡ true → (x : Cursor) → x ≡ cursor_at end e.origin → Done body n t u (Ok (x, m))
         unfolding ending_of ending_if has_ending
         body_there e m f z o keeps delimited g x made =
             let l : keeps_ends set ≡ true = sym keeps ∙ and_first z o g in
             let i : is_delimited (type_at b at) ≡ true = sym delimited ∙ and_second z o g in
             is_same (between ∙ rw (l, i)) (stands_there w set end l h e m f x made)
 
-        pub body_rest : (e : Cursor) (m : ℕ) → r ≡ Read e m → (z o : Bool) → z ≡ keeps_ends set → o ≡ is_delimited (type_at b at) → (z && o) ≡ false → Done body n t u (Read e m)
+        pub body_rest : (e : Cursor) (m : ℕ) → r ≡ Ok (e, m) → (z o : Bool) → z ≡ keeps_ends set → o ≡ is_delimited (type_at b at) → (z && o) ≡ false → Done body n t u (Ok (e, m))
         unfolding ending_of ending_if has_ending
         body_rest e m f z o keeps delimited g = is_same (between ∙ rw (no_ending z o keeps delimited g) (then_nil _)) (rw f at h)
           where
@@ -197,7 +193,7 @@ module _ {b index : List ℕ} {ty p k : ℕ} {o : Bool} (at : PlaceOf b index ty
   unfit_at zero e = ap too_deep_if (opens_is ∙ e)
   unfit_at (suc d) e = ap (λ (x : Bool). opened_if types s set (nested_at types set d) x ty id c (room t n)) (opens_is ∙ e)
 
-  pub nested_unfit : not o ≡ true → Done nested n t t (Refused InvalidType)
+  pub nested_unfit : not o ≡ true → Done nested n t t (Err (trouble.Refused InvalidType))
   nested_unfit e = is_refused (unfit_at D (negated o e)) (filled_none t n)
     where
       negated : (x : Bool) → not x ≡ true → x ≡ false
@@ -217,7 +213,7 @@ module _ {b index : List ℕ} {ty p k : ℕ} {o : Bool} (at : PlaceOf b index ty
     deep_at zero e = ap too_deep_if (opens_is ∙ opened)
     deep_at (suc d) e = absurd (omega arith)
 
-    pub nested_deep : D ≡ 0 → Done nested n t t (Refused TooDeep)
+    pub nested_deep : D ≡ 0 → Done nested n t t (Err (trouble.Refused TooDeep))
     nested_deep e = is_refused (deep_at D e) (filled_none t n)
 
     opened_at : (d : ℕ) → nested_at types set (suc d) s ty id c (room t n) ≡ room_for (room t n) (closed (type_no types ty).kind id ty c.pos (body_of types s set (nested_at types set d) (type_no types ty) c (room t n - 1)))
@@ -235,21 +231,15 @@ module _ {b index : List ℕ} {ty p k : ℕ} {o : Bool} (at : PlaceOf b index ty
       abbrev beneath : ℕ → Outcome
       beneath x = body_of types s set (nested_at types set (D - 1)) (type_at b p) c x
 
-      pub nested_full : f ≡ true → Done nested n t t (Refused NoRoom)
+      pub nested_full : f ≡ true → Done nested n t t (Err (trouble.Refused NoRoom))
       nested_full = row_full k id ty c.pos beneath t n f full (is_opened deep)
 
-      module _ (fits : f ≡ false) {x : ℕ} (stored : x ≡ stored_of k) {w : List ℕ} (given-row : w ≡ put_row t n (row x id ty 0 c.pos)) {d : Cursor} (made : d ≡ c) {u : List ℕ} {r : Out} (given : Done (body_of types s set (nested_at types set (D - 1)) (type_at b p) d (room w (n + 1))) (n + 1) w u r) where
+      module _ (fits : f ≡ false) {x : ℕ} (stored : x ≡ stored_of k) {w : List ℕ} (given-row : w ≡ put_row t n (row x id ty 0 c.pos)) {u : List ℕ} {r : Out} (h : Done (body_of types s set (nested_at types set (D - 1)) (type_at b p) c (room w (n + 1))) (n + 1) w u r) where
         put : w ≡ put_row t n (row k id ty 0 c.pos)
         put = given-row ∙ ap (λ (y : ℕ). put_row t n (row y id ty 0 c.pos)) (stored ∙ opened_stored k (sym is ∙ opened))
 
-        h : Done (beneath (room w (n + 1))) (n + 1) w u r
-        h = rw made at given
-
-        pub nested_read : (e : Cursor) (m : ℕ) (v : List ℕ) → r ≡ Read e m → v ≡ put_row u n (counting (row_at u n) (m - n - 1)) → Done nested n t v (Read e m)
+        pub nested_read : (e : Cursor) (m : ℕ) (v : List ℕ) → r ≡ Ok (e, m) → v ≡ put_row u n (counting (row_at u n) (m - n - 1)) → Done nested n t v (Ok (e, m))
         nested_read = row_read k id ty c.pos beneath t n f full (is_opened deep) fits w put u r h
 
-        pub nested_short : (y : Shortage) → r ≡ Short y → Done nested n t u (Short y)
-        nested_short = row_short k id ty c.pos beneath t n f full (is_opened deep) fits w put u r h
-
-        pub nested_refused : (y : Refusal) → r ≡ Refused y → Done nested n t u (Refused y)
-        nested_refused = row_refused k id ty c.pos beneath t n f full (is_opened deep) fits w put u r h
+        pub nested_failed : (y : Trouble) → r ≡ Err y → Done nested n t u (Err y)
+        nested_failed = row_failed k id ty c.pos beneath t n f full (is_opened deep) fits w put u r h

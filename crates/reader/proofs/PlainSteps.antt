@@ -1,10 +1,10 @@
 -- Laws of the quick way for a member: of a kind that is taken, the value of a member that is not optional, and of one that was found, is what
 -- `scalar_of` says; and of the header that is asked first. Assumes nothing.
+use Rattle.std.specs.Prelude.{Ok, None, Option as Told}
 use Prim.Native.Nat.{ℕ, ◌+◌, ◌^◌, ◌≤◌, ◌<◌}
 use mathlib.Core.Path.{◌≡◌, refl, sym, ap, ◌∙◌}
 use mathlib.Core.Bool.{Bool, true, false, not}
 use mathlib.Core.List.{List, [], ◌∷◌}
-use mathlib.Core.Logic.{◌⊎◌, inl, inr}
 use native.Mathlib.Omega.{arith}
 use mir.Syntax.{w64}
 use mir.Val.{Fits}
@@ -30,8 +30,7 @@ use Rattle.lookup.specs.declared.ahead.Hint.{Hint}
 use Rattle.lookup.specs.Code.Ahead.{HeaderAhead}
 use Rattle.table.specs.Rows.{room}
 use Rattle.table.specs.Outcome.{read}
-use Rattle.table.specs.declared.out.Out.{Out}
-use Rattle.table.specs.declared.out.Out.TheVariants.{Read}
+use Rattle.table.specs.Code.Outcome.{Out}
 use Rattle.table.specs.Code.Outcome.{Done}
 use Rattle.wire.specs.Place.{cursor_at}
 use Rattle.values.specs.Scalar.{scalar_of}
@@ -148,7 +147,7 @@ module _ (b index s : List ℕ) (set : Settings) (p : ℕ) (c : Cursor) (t : Lis
         found_is y = rw (← type, taken_other (types_by b index) s set nest ty i c (room t n) k y (read_as_law y) set.version set.mode) (rw type (value_is y nest))
 
     -- .. and so it is done, or left as it was
-    pub found_done : 0 < r → (nest : Nest) (length : ℕ) → Done (found_value (types_by b index) s set nest (member_at b p) length c (room t n)) n t u (Read (cursor_at r c.origin) (n + 1))
+    pub found_done : 0 < r → (nest : Nest) (length : ℕ) → Done (found_value (types_by b index) s set nest (member_at b p) length c (room t n)) n t u (Ok (cursor_at r c.origin, n + 1))
     found_done h nest length = quick_done 1 r h (found_taken nest length)
 
     pub found_fits : 0 < r → length t < 2 ^ 64 → Fits w64 (n + 1)
@@ -163,7 +162,7 @@ module _ (b index s : List ℕ) (set : Settings) (p : ℕ) (c : Cursor) (t : Lis
   quickly : (nest : Nest) → Quickly (fmember_of (types_by b index) s set nest (member_at b p) c (room t n)) 1 n c.origin t u r
   quickly = plain_taken b index s set p c t n m.ty k m.id head.type read_as_law head.id u r d.0 d.1 m.optional head.option (not-true m.optional never)
 
-  pub fmember_quick : (nest : Nest) → 0 < r → {e : Cursor} → e ≡ cursor_at r c.origin → Done (fmember_of (types_by b index) s set nest (member_at b p) c (room t n)) n t u (Read e (n + 1))
+  pub fmember_quick : (nest : Nest) → 0 < r → {e : Cursor} → e ≡ cursor_at r c.origin → Done (fmember_of (types_by b index) s set nest (member_at b p) c (room t n)) n t u (Ok (e, n + 1))
   fmember_quick nest h e = rw e (quick_done 1 r h (quickly nest))
 
   -- a row that was written has its place
@@ -173,16 +172,13 @@ module _ (b index s : List ℕ) (set : Settings) (p : ℕ) (c : Cursor) (t : Lis
   pub fmember_left : (nest : Nest) → r ≤ 0 → {v : List ℕ} {x : Out} → Done (fmember_of (types_by b index) s set nest (member_at b p) c (room u n)) n u v x → Done (fmember_of (types_by b index) s set nest (member_at b p) c (room t n)) n t v x
   fmember_left nest h l = rw (quick_none _ 1 n c.origin t u r h (quickly nest)) at l
 
--- .. by the way that was come
-pub by_three : {A B C G : Type 0} → A ⊎ (B ⊎ C) → (A → G) → (B → G) → (C → G) → G
-by_three (inl x) f g h = f x
-by_three (inr (inl x)) f g h = g x
-by_three (inr (inr x)) f g h = h x
-
 -- from a table that is the same
 pub fmember_from : (b index s : List ℕ) (set : Settings) (nest : Nest) (p : ℕ) (c : Cursor) (n : ℕ) {t u v : List ℕ} {x : Out} → t ≡ u → Done (fmember_of (types_by b index) s set nest (member_at b p) c (room t n)) n t v x → Done (fmember_of (types_by b index) s set nest (member_at b p) c (room u n)) n u v x
 fmember_from b index s set nest p c n e d = rw e at d
 
 -- the header where the hint says is asked for the member's own id
-pub ahead_of : (b s : List ℕ) (set : Settings) (p : ℕ) (h : Hint) (origin : ℕ) (r : Ahead) (i : ℕ) → i ≡ (member_at b p).id → HeaderAhead s set i h origin r → HeaderAhead s set (member_at b p).id h origin r
+pub ahead_of : (b s : List ℕ) (set : Settings) (p : ℕ) (h : Hint) (origin : ℕ) (r : Told Ahead) (i : ℕ) → i ≡ (member_at b p).id → HeaderAhead s set i h origin r → HeaderAhead s set (member_at b p).id h origin r
 ahead_of b s set p h origin r i e k = rw e at k
+
+pub ahead_none : (s : List ℕ) (set : Settings) (i : ℕ) (h : Hint) (origin : ℕ) → HeaderAhead s set i h origin None
+ahead_none s set i h origin = record { small = λ a e. cc; near = λ a e. cc; found = λ b q y a e. cc; on = λ b y a e. cc }

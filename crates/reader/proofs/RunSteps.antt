@@ -1,7 +1,7 @@
 -- Laws of a run of opened values: what each turn shows, and that it is what the rules say of a member's value and of a list's. Assumes nothing.
+use Rattle.std.specs.Prelude.{Err, Ok}
 use Prim.Native.Nat.{ℕ, zero, suc, ◌+◌, ◌-◌, ◌≤◌, ◌<◌}
-use mathlib.Core.Path.{◌≡◌, refl, sym, ap, ◌∙◌}
-use mathlib.Core.Bool.{Bool, false}
+use mathlib.Core.Path.{◌≡◌, refl, sym, ap}
 use mathlib.Core.List.{List, []}
 use native.Mathlib.Nat.{sub-zero}
 use native.Mathlib.Omega.{arith}
@@ -9,20 +9,16 @@ use mir.Syntax.{w64}
 use mir.Val.{Fits}
 use lib.ListN.{length}
 use Rattle.wire.specs.declared.cursor.Cursor.{Cursor}
-use Rattle.wire.specs.declared.cursor.Shortage.{Shortage}
 use Rattle.wire.specs.declared.settings.Settings.{Settings}
 use Rattle.wire.specs.Place.{cursor_at}
 use Rattle.book.specs.Types.{BookType}
-use Rattle.table.specs.declared.out.Refusal.{Refusal}
-use Rattle.table.specs.declared.out.Out.{Out}
-use Rattle.table.specs.declared.out.Out.TheVariants.{Read, Short, Refused}
-use Rattle.table.specs.declared.rows.Row.{Row}
-use Rattle.table.specs.Rows.{room, no_room}
-use Rattle.table.specs.Code.Rows.{put_row}
+use Rattle.table.specs.declared.out.Trouble.{Trouble}
+use Rattle.table.specs.Code.Outcome.{Out}
+use Rattle.table.specs.Rows.{room}
 use Rattle.table.specs.Outcome.{Outcome, read, short, refused, prepend, and_then}
 use Rattle.table.specs.Code.Outcome.{Done}
-use Rattle.table.proofs.Filling.{filled_none, full_fits, length_put_row}
-use Rattle.table.proofs.Outcomes.{is_same, then_nil, Sofar, sofar_start, sofar_read, turn_read, turn_short, turn_refused}
+use Rattle.table.proofs.Filling.{filled_none}
+use Rattle.table.proofs.Outcomes.{is_same, then_nil, Sofar, sofar_start, sofar_read, turn_read, turn_failed}
 use Rattle.reader.specs.Value.{Nest, opened_from}
 use Rattle.reader.specs.Nested.{nested_at, reading}
 use Rattle.reader.specs.Code.Run.{run_of}
@@ -47,21 +43,14 @@ module _ {nest : Nest} {s : List ℕ} {ty count : ℕ} {whole : Outcome} {n : �
     abbrev those_after : Cursor → ℕ → Outcome
     those_after d k = run_of nest s ty (i + 1) (count - (i + 1)) (i + 1) d k
 
-    pub run_turn : {d : Cursor} {k : ℕ} → r ≡ Read d k → RunSofar nest s ty count whole n a v (i + 1) (i + 1) d k
+    pub run_turn : {d : Cursor} {k : ℕ} → r ≡ Ok (d, k) → RunSofar nest s ty count whole n a v (i + 1) (i + 1) d k
     run_turn {d} {k} q = record { so = turn_read those_after inv.so (more nest s ty count id i c (room u m) l) h d k q }
 
-    pub run_short : {x : Shortage} → r ≡ Short x → Done whole n a v (Short x)
-    run_short {x} q = turn_short those_after inv.so (more nest s ty count id i c (room u m) l) h x q
+    pub run_failed : {e : Trouble} → r ≡ Err e → Done whole n a v (Err e)
+    run_failed {e} q = turn_failed those_after inv.so (more nest s ty count id i c (room u m) l) h e q
 
-    pub run_refused : {k : Refusal} → r ≡ Refused k → Done whole n a v (Refused k)
-    run_refused {k} q = turn_refused those_after inv.so (more nest s ty count id i c (room u m) l) h k q
-
-  pub run_end : count ≤ i → {d : Cursor} → d ≡ c → Done whole n a u (Read d m)
-  run_end h made = rw made (sofar_read inv.so (none nest s ty count id i c (room u m) h) (filled_none u m))
-
-  -- the table is as long as it was, with a row of its own and what stands beneath it too
-  pub run_kept : (x : Row) {w v : List ℕ} {o : Outcome} {r : Out} {f : Bool} → f ≡ no_room u m → f ≡ false → w ≡ put_row u m x → Done o (m + 1) w v r → length v ≡ length a
-  run_kept x full fits put h = h.table.long ∙ ap length put ∙ length_put_row u m x (full_fits u m _ full fits) ∙ inv.so.filled.long
+  pub run_end : count ≤ i → Done whole n a u (Ok (c, m))
+  run_end h = sofar_read inv.so (none nest s ty count id i c (room u m) h) (filled_none u m)
 
   pub run_long : {k : ℕ} → length a < k → length u < k
   run_long h = rw inv.so.filled.long h

@@ -1,4 +1,7 @@
 -- Laws of a value and of lists of opened values: what each return and each turn shows. Assumes nothing.
+use Rattle.std.specs.Prelude.{Err, Ok}
+use Rattle.table.specs.declared.out.Trouble.TheVariants as trouble
+use Rattle.wire.specs.declared.cursor.Unread.TheVariants as unread
 use Prim.Native.Nat.{ℕ, ◌+◌, ◌-◌, ◌≤◌, ◌<◌}
 use mathlib.Core.Path.{◌≡◌, refl, sym, ap, ◌∙◌}
 use mathlib.Core.Bool.{Bool, true, false, not, ◌||◌, ◌&&◌, or-false}
@@ -13,23 +16,21 @@ use Rattle.ground.specs.Choice.{pick, both, among}
 use Rattle.wire.specs.declared.cursor.Cursor.{Cursor}
 use Rattle.wire.specs.declared.cursor.Shortage.{Shortage}
 use Rattle.wire.specs.declared.settings.Settings.{Settings}
-use Rattle.table.specs.declared.out.Out.{Out}
-use Rattle.table.specs.declared.out.Out.TheVariants.{Read, Short, Refused}
+use Rattle.table.specs.Code.Outcome.{Out}
 use Rattle.table.specs.Rows.{row, room, no_room}
 use Rattle.table.specs.Code.Rows.{put_row, Filled}
 use Rattle.table.specs.Outcome.{Outcome, read, short, refused, room_for, prepend, and_then}
-use Rattle.table.specs.Code.Outcome.{Done}
+use Rattle.table.specs.Code.Outcome.{Done, unread_trouble}
+use Rattle.wire.specs.declared.cursor.Unread.{Unread}
 use Rattle.table.proofs.Filling.{filled_none, filled_kept, filled_one, full_fits, room_used}
 use Rattle.table.proofs.Outcomes.{is_read, is_short, is_refused, is_same, is_after, WasRead, was_read, was_short, was_refused, then_read, then_short, then_refused, then_nil, no_room_law, some_room}
-use Rattle.wire.specs.declared.dheader.Contents.{Contents}
-use Rattle.wire.specs.declared.dheader.Contents.TheVariants as contents
+use Rattle.wire.specs.Dheader.{Contents}
 use Rattle.wire.specs.Place.{cursor_at}
 use Rattle.wire.specs.Ends.{keeps_ends, cut_at}
 use Rattle.wire.specs.Dheader.{contents_at}
 use Rattle.wire.specs.Number.{after_number}
 use Rattle.wire.proofs.Contents.{contents_short, contents_between, contents_past}
-use Rattle.wire.specs.declared.number.Number.{Number}
-use Rattle.wire.specs.declared.number.Number.TheVariants as number
+use Rattle.wire.specs.Number.{Number}
 use Rattle.wire.proofs.Numbers.{after_got, after_none}
 use Rattle.kinds.proofs.Table.{opened_stored, sequence_stored}
 use Rattle.kinds.specs.Kinds.{stored_of, is_primitive, unsupported_member, unsupported_element, opens}
@@ -82,7 +83,7 @@ module _ (b index s : List ℕ) (set : Settings) (nest : Nest) (ty id : ℕ) (c 
     abbrev elements : Outcome
     elements = elements_of (types_by b index) s set nest ty id count c (room t n)
 
-    pub elements_unsupported : (x : Bool) → x ≡ unsupported_element k → x ≡ true → Done elements n t t (Refused Unsupported)
+    pub elements_unsupported : (x : Bool) → x ≡ unsupported_element k → x ≡ true → Done elements n t t (Err (trouble.Refused Unsupported))
     unfolding elements_of
     elements_unsupported x e f = is_refused (rw (tested unsupported_element x true e f)) (filled_none t n)
 
@@ -91,7 +92,7 @@ module _ (b index s : List ℕ) (set : Settings) (nest : Nest) (ty id : ℕ) (c 
       unfolding elements_of opened_list
       opened_list_law h = rw (kind_no, ← e, f, ← g, h)
 
-      pub elements_full : y ≡ true → (z : Bool) → z ≡ no_room t n → z ≡ true → Done elements n t t (Refused NoRoom)
+      pub elements_full : y ≡ true → (z : Bool) → z ≡ no_room t n → z ≡ true → Done elements n t t (Err (trouble.Refused NoRoom))
       elements_full h z i j = is_refused (opened_list_law h ∙ no_room_law t n _ z i j) (filled_none t n)
 
       pub elements_opened : y ≡ true → (z : Bool) → z ≡ no_room t n → z ≡ false → (i₁ i₂ : ℕ) → i₁ ≡ stored_of 25 → i₂ ≡ stored_of k → (u : List ℕ) → u ≡ put_row t n (row i₁ id i₂ count c.pos) → (v : List ℕ) (r : Out)
@@ -102,10 +103,10 @@ module _ (b index s : List ℕ) (set : Settings) (nest : Nest) (ty id : ℕ) (c 
           ∙ ap (prepend (row 25 id k count c.pos ∷ [])) (sym (run_list (types_by b index) s set nest ty count 0 c (room u (n + 1))))) (is_after w d)
 
       -- .. of which there is none
-      pub elements_none : y ≡ true → (z : Bool) → z ≡ no_room t n → z ≡ false → (i₁ i₂ : ℕ) → i₁ ≡ stored_of 25 → i₂ ≡ stored_of k → (u : List ℕ) → u ≡ put_row t n (row i₁ id i₂ count c.pos) → count ≡ 0 → Done elements n t u (Read c (n + 1))
+      pub elements_none : y ≡ true → (z : Bool) → z ≡ no_room t n → z ≡ false → (i₁ i₂ : ℕ) → i₁ ≡ stored_of 25 → i₂ ≡ stored_of k → (u : List ℕ) → u ≡ put_row t n (row i₁ id i₂ count c.pos) → count ≡ 0 → Done elements n t u (Ok (c, n + 1))
       unfolding run_of
       elements_none h z i j i₁ i₂ l m u q none =
-          elements_opened h z i j i₁ i₂ l m u q u (Read c (n + 1)) (is_read {rs = []} (ap (λ (x : ℕ). run_of nest s ty 0 x 0 c (room u (n + 1))) none) (sym (add-zero (n + 1))) (filled_none u (n + 1)))
+          elements_opened h z i j i₁ i₂ l m u q u (Ok (c, n + 1)) (is_read {rs = []} (ap (λ (x : ℕ). run_of nest s ty 0 x 0 c (room u (n + 1))) none) (sym (add-zero (n + 1))) (filled_none u (n + 1)))
 
       -- what opens nothing: both sorts of lists, of which a primitive is read as its own kind
       pub elements_plain : y ≡ false → (a : ℕ) → a ≡ read_as (type_at b p) → (u : List ℕ) (r : Out) → Done (plain_of (eqb k 2 || eqb k 13) s set a id count c (room t n)) n t u r → Done elements n t u r
@@ -118,7 +119,7 @@ module _ (b index s : List ℕ) (set : Settings) (nest : Nest) (ty id : ℕ) (c 
   abbrev valued : Outcome
   valued = value_of (types_by b index) s set nest ty id c (room t n)
 
-  pub value_none : k ≡ 0 → Done valued n t t (Read c n)
+  pub value_none : k ≡ 0 → Done valued n t t (Ok (c, n))
   unfolding value_of
   value_none e = is_read {rs = []} (rw (kind_no, e)) (sym (add-zero n)) (filled_none t n)
 
@@ -130,7 +131,7 @@ module _ (b index s : List ℕ) (set : Settings) (nest : Nest) (ty id : ℕ) (c 
       is_same (rw (ap (λ (z : ℕ). eqb z 0) kind_no ∙ o.0, ap unsupported_member kind_no ∙ o.1, tested opens y true g h) (sym (run_single nest s ty id c (room t n)))) d
 
   module _ (some : k ≡ 0 → ⊥) (x : Bool) (e : x ≡ unsupported_member k) where
-    pub value_unsupported : x ≡ true → Done valued n t t (Refused Unsupported)
+    pub value_unsupported : x ≡ true → Done valued n t t (Err (trouble.Refused Unsupported))
     unfolding value_of
     value_unsupported f = is_refused (rw (kind_no, ne_eqb k 0 some, ← e, f)) (filled_none t n)
 
@@ -157,7 +158,7 @@ module _ (b index s : List ℕ) (set : Settings) (nest : Nest) (ty id : ℕ) (c 
 
       -- .. where the quick way took it, or left it alone
       module _ (h : y ≡ false) (i : (eqb k 25 || eqb k 26) ≡ false) (a : ℕ) (j : a ≡ read_as (type_at b p)) (u : List ℕ) (r : ℕ) (q : Quickly (scalar_of s set a id c (room t n)) 1 n c.origin t u r) where
-        pub value_taken : 0 < r → (d : Cursor) → d ≡ cursor_at r c.origin → Done valued n t u (Read d (n + 1))
+        pub value_taken : 0 < r → (d : Cursor) → d ≡ cursor_at r c.origin → Done valued n t u (Ok (d, n + 1))
         value_taken l d m = value_scalar h i a j u _ (rw m (quick_done 1 r l q))
 
         pub value_left : r ≤ 0 → (v : List ℕ) (w : Out) → Done (scalar_of s set a id c (room u n)) n u v w → Done valued n t v w
@@ -168,14 +169,14 @@ ends_there : (end : ℕ) {o : Outcome} {n : ℕ} {t u : List ℕ} {r v : Out} �
 unfolding and_then prepend ending_at
 ends_there end {o} {n} {t} {u} {r} {v} h f = go r refl
   where
-    by : (c : Cursor) (m : ℕ) → r ≡ Read c m → WasRead o n t u c m → (y : Bool) → eqb c.pos end ≡ y → Done (and_then o (λ e used. pick (eqb e.pos end) (read e []) (refused InvalidData))) n t u v
+    by : (c : Cursor) (m : ℕ) → r ≡ Ok (c, m) → WasRead o n t u c m → (y : Bool) → eqb c.pos end ≡ y → Done (and_then o (λ e used. pick (eqb e.pos end) (read e []) (refused InvalidData))) n t u v
     by c m q w true e = rw (f ∙ ap (ending_at end) q, e) (is_read (then_read _ w.is ∙ rw e (ap (read c) (append-nil w.new))) w.count w.filled)
     by c m q w false e = rw (f ∙ ap (ending_at end) q, e) (is_refused (then_read _ w.is ∙ rw e) (filled_kept w.filled))
 
     go : (x : Out) → r ≡ x → Done (and_then o (λ e used. pick (eqb e.pos end) (read e []) (refused InvalidData))) n t u v
-    go (Read c m) q = by c m q (was_read h q) (eqb c.pos end) refl
-    go (Short x) q = let w = was_short h q in rw (f ∙ ap (ending_at end) q) (is_short (then_short _ w.is) w.filled)
-    go (Refused k) q = let w = was_refused h q in rw (f ∙ ap (ending_at end) q) (is_refused (then_refused _ w.is) w.filled)
+    go (Ok (c, m)) q = by c m q (was_read h q) (eqb c.pos end) refl
+    go (Err (trouble.Short x)) q = let w = was_short h q in rw (f ∙ ap (ending_at end) q) (is_short (then_short _ w.is) w.filled)
+    go (Err (trouble.Refused k)) q = let w = was_refused h q in rw (f ∙ ap (ending_at end) q) (is_refused (then_refused _ w.is) w.filled)
 
 -- a list: what begins it, its elements, what ends it
 module _ (b index s : List ℕ) (set : Settings) (nest : Nest) (at id : ℕ) (c : Cursor) (t : List ℕ) (n : ℕ) (p : Bool) (primitive : p ≡ primitive_element (types_by b index) (type_at b at)) (g : Contents) (is : g ≡ contents_at s set (not p) c) where
@@ -186,24 +187,22 @@ module _ (b index s : List ℕ) (set : Settings) (nest : Nest) (at id : ℕ) (c 
   unfolding has_dheader
   begins = rw (← primitive) (sym is)
 
-  pub list_short : (x : Shortage) → g ≡ contents.Short x → Done list n t t (Short x)
+  -- what begins it ran short, or its end is past the data's
+  pub list_unread : (x : Unread) → g ≡ Err x → Done list n t t (Err (unread_trouble x))
   unfolding list_value
-  list_short x e = is_short (contents_short _ _ _ (begins ∙ e)) (filled_none t n)
+  list_unread (unread.Short x) e = is_short (contents_short _ _ _ (begins ∙ e)) (filled_none t n)
+  list_unread unread.Bad e = is_refused (contents_past _ _ _ (begins ∙ e)) (filled_none t n)
 
-  pub list_past : g ≡ contents.Past → Done list n t t (Refused InvalidData)
-  unfolding list_value
-  list_past e = is_refused (contents_past _ _ _ (begins ∙ e)) (filled_none t n)
-
-  module _ (d : Cursor) (end : ℕ) (e : g ≡ contents.Between d end) (w : List ℕ) (cut : w ≡ cut_at set s (0 + end)) (q : Bool) (m : ℕ) (sequence : q ≡ is_sequence (type_at b at)) (bound : m ≡ (type_at b at).bound)
+  module _ (d : Cursor) (end : ℕ) (e : g ≡ Ok (d, end)) (w : List ℕ) (cut : w ≡ cut_at set s (0 + end)) (q : Bool) (m : ℕ) (sequence : q ≡ is_sequence (type_at b at)) (bound : m ≡ (type_at b at).bound)
       (k : Number) (counts : k ≡ count_at w set q m d) where
     begun : list ≡ and_then (after_number short k (λ count f. elements_of (types_by b index) w set nest (type_at b at).element id count f (room t n))) (λ f used. list_end (types_by b index) set (type_at b at) end f)
     unfolding list_value counted_of
     begun = contents_between _ _ _ (begins ∙ e) ∙ rw (← (cut ∙ ap (cut_at set s) (let y : 0 + end ≡ end = omega arith in y)), ← sequence, ← bound, ← counts)
 
-    pub list_uncounted : (x : Shortage) → k ≡ number.Short x → Done list n t t (Short x)
+    pub list_uncounted : (x : Shortage) → k ≡ Err x → Done list n t t (Err (trouble.Short x))
     list_uncounted x f = is_short (begun ∙ then_short _ (after_none _ _ f)) (filled_none t n)
 
-    module _ (count : ℕ) (first : Cursor) (got : k ≡ number.Got count first) (ty : ℕ) (element : ty ≡ (type_at b at).element) (u : List ℕ) (r : Out)
+    module _ (count : ℕ) (first : Cursor) (got : k ≡ Ok (count, first)) (ty : ℕ) (element : ty ≡ (type_at b at).element) (u : List ℕ) (r : Out)
         (h : Done (elements_of (types_by b index) w set nest ty id count first (room t n)) n t u r) (z : Bool) (keeps : z ≡ keeps_ends set) where
       ended : (y : Bool) → (z && not p) ≡ y → list ≡ and_then (elements_of (types_by b index) w set nest ty id count first (room t n)) (λ f used. list_end_if y end f)
       unfolding list_end has_dheader

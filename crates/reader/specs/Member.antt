@@ -1,5 +1,6 @@
 -- A member, plain, optional or looked up. Who asks for it makes no difference.
-use Rattle.std.specs.Prelude.{ℕ, ◌+◌, ◌/◌, List, [], Bool, true, false}
+use Rattle.wire.specs.declared.cursor.Unread.TheVariants as unread
+use Rattle.std.specs.Prelude.{ℕ, ◌+◌, ◌/◌, List, [], Bool, true, false, Err, None, Ok, Some}
 use Rattle.ground.specs.Choice.{both}
 use Rattle.wire.specs.declared.cursor.Cursor.{Cursor}
 use Rattle.wire.specs.declared.settings.Settings.{Settings}
@@ -8,15 +9,13 @@ use Rattle.wire.specs.declared.settings.Version.TheVariants.{Xcdr1, Xcdr2}
 use Rattle.wire.specs.declared.settings.Mode.{Mode}
 use Rattle.wire.specs.declared.settings.Mode.TheVariants.{Crate, Standard}
 use Rattle.wire.specs.Ends.{cut_at}
-use Rattle.wire.specs.declared.number.Boolean.{Boolean}
-use Rattle.wire.specs.declared.number.Boolean.TheVariants as boolean
+use Rattle.wire.specs.Number.{Boolean}
 use Rattle.wire.specs.Number.{read_boolean}
 use Rattle.kinds.specs.Kinds.{element_size_of}
 use Rattle.book.specs.Types.{BookType, Member, optional, type_no}
 use Rattle.book.specs.Asked.{is_sequence, primitive_element}
 use Rattle.lookup.specs.Member.{locate}
-use Rattle.lookup.specs.declared.member.Located.{Located}
-use Rattle.lookup.specs.declared.member.Located.TheVariants as located
+use Rattle.lookup.specs.Member.{Located}
 use Rattle.table.specs.declared.out.Refusal.TheVariants.{InvalidData}
 use Rattle.table.specs.Outcome.{Outcome, read, short, refused, back_to}
 use Rattle.reader.specs.Value.{Nest, elements_of, value_of}
@@ -50,9 +49,9 @@ module _ (types : List BookType) (s : List ℕ) (set : Settings) (nest : Nest) w
 
   -- "A failed lookup stores nothing; position and origin always come back."
   unfoldable pub on_located : Member → ℕ → Located → Outcome
-  on_located m room (located.Short x) = short x
-  on_located m room (located.Absent back) = read back []
-  on_located m room (located.Found length c back) = back_to back (found_of m length c room)
+  on_located m room (Err x) = short x
+  on_located m room (Ok (None, back)) = read back []
+  on_located m room (Ok (Some (length, c), back)) = back_to back (found_of m length c room)
 
   -- a member by its lookup
   unfoldable pub mmember_of : Member → Cursor → ℕ → Outcome
@@ -60,10 +59,10 @@ module _ (types : List BookType) (s : List ℕ) (set : Settings) (nest : Nest) w
 
   -- "Other optional members have one bool before them."
   unfoldable pub on_present : Member → ℕ → Boolean → Outcome
-  on_present m room (boolean.Short x) = short x
-  on_present m room boolean.Bad = refused InvalidData
-  on_present m room (boolean.Got false c) = read c []
-  on_present m room (boolean.Got true c) = value_of types s set nest m.type m.id c room
+  on_present m room (Err (unread.Short x)) = short x
+  on_present m room (Err unread.Bad) = refused InvalidData
+  on_present m room (Ok (false, c)) = read c []
+  on_present m room (Ok (true, c)) = value_of types s set nest m.type m.id c room
 
   -- XCDR1: "Optional members in Final and Appendable types use it too", the lookup
   unfoldable pub optional_by : Version → Member → Cursor → ℕ → Outcome

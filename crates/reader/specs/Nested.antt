@@ -1,12 +1,12 @@
 -- Opening a value, and the depth.
-use Rattle.std.specs.Prelude.{ℕ, zero, suc, ◌-◌, List, [], eqb, Bool, true, false, not}
+use Rattle.wire.specs.declared.cursor.Unread.TheVariants as unread
+use Rattle.std.specs.Prelude.{ℕ, zero, suc, ◌-◌, List, [], eqb, Bool, true, false, not, Err, Ok}
 use Rattle.ground.specs.Choice.{pick, both}
 use Rattle.wire.specs.declared.cursor.Cursor.{Cursor}
 use Rattle.wire.specs.declared.settings.Settings.{Settings}
 use Rattle.wire.specs.declared.settings.Version.{Version}
 use Rattle.wire.specs.declared.settings.Version.TheVariants.{Xcdr1, Xcdr2}
-use Rattle.wire.specs.declared.dheader.Contents.{Contents}
-use Rattle.wire.specs.declared.dheader.Contents.TheVariants as contents
+use Rattle.wire.specs.Dheader.{Contents}
 use Rattle.wire.specs.Place.{cursor_at, after_move}
 use Rattle.wire.specs.Ends.{keeps_ends, cut_at}
 use Rattle.wire.specs.Dheader.{undelimited, contents_at, after_contents}
@@ -35,9 +35,9 @@ has_ending set t = pick (keeps_ends set) (is_delimited t) (both (is_mutable t) (
 module _ (s : List ℕ) (set : Settings) where
   -- its members then stand where it ran short: "Refusals keep the position reached." (`Past` comes up only where ends are kept, and there all is heard.)
   unfoldable pub unheard : Contents → Contents
-  unheard (contents.Short x) = undelimited s x.at
-  unheard contents.Past = contents.Past
-  unheard (contents.Between c end) = contents.Between c end
+  unheard (Err (unread.Short x)) = undelimited s x.at
+  unheard (Err unread.Bad) = Err unread.Bad
+  unheard (Ok (c, end)) = Ok (c, end)
 
   -- such a one, or any other: "if that read is short, the value itself answers 1"
   unfoldable pub unheard_if : Bool → Contents → Contents

@@ -1,13 +1,13 @@
 -- Unions.
-use Rattle.std.specs.Prelude.{ℕ, ◌-◌, List, [], ◌∷◌, Bool, true, false, length}
+use Rattle.std.specs.Prelude.{ℕ, ◌-◌, List, [], ◌∷◌, Bool, true, false, length, Err, Ok}
 use Rattle.std.proofs.Math.Option.{Option, none, some}
 use Rattle.wire.specs.declared.cursor.Cursor.{Cursor}
 use Rattle.wire.specs.declared.settings.Settings.{Settings}
 use Rattle.book.specs.Types.{BookType, Member}
 use Rattle.choice.specs.Discriminator.{discriminator_of}
 use Rattle.choice.specs.Select.{selected_of}
-use Rattle.choice.specs.declared.discriminator.Discriminator.{Discriminator}
-use Rattle.choice.specs.declared.discriminator.Discriminator.TheVariants.{Absent, Unfit, Value}
+use Rattle.choice.specs.Discriminator.{Discriminator}
+use Rattle.choice.specs.declared.discriminator.Unsaid.TheVariants.{Absent, Unfit}
 use Rattle.table.specs.declared.out.Refusal.TheVariants.{InvalidData, InvalidType, NoDiscriminator}
 use Rattle.table.specs.Outcome.{Outcome, read, short, refused, prepend}
 use Rattle.reader.specs.Value.{Nest, value_of}
@@ -31,9 +31,9 @@ module _ (types : List BookType) (s : List ℕ) (set : Settings) (nest : Nest) w
 
   -- "Not stored: 14. Kinds 1, 5, 8 to 11, 14 and bitmasks stored as 8: 3."
   unfoldable pub on_discriminator : Bool → Member → List Member → Cursor → ℕ → Discriminator → Outcome
-  on_discriminator mutable disc ms c room Absent = refused NoDiscriminator
-  on_discriminator mutable disc ms c room Unfit = refused InvalidType
-  on_discriminator mutable disc ms c room (Value d) = on_selected mutable (selected_of types disc ms d) c room
+  on_discriminator mutable disc ms c room (Err Absent) = refused NoDiscriminator
+  on_discriminator mutable disc ms c room (Err Unfit) = refused InvalidType
+  on_discriminator mutable disc ms c room (Ok d) = on_selected mutable (selected_of types disc ms d) c room
 
   -- after the discriminator: its rows stay, and the selected member follows
   unfoldable pub chosen_of : Bool → Member → List Member → ℕ → Outcome → Outcome

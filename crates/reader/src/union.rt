@@ -4,123 +4,81 @@ ghost use Rattle.table.specs.Rows.{room};
 ghost use Rattle.table.specs.Code.Outcome.{Done};
 ghost use Rattle.reader.specs.Code.Cycle.{union_in, discriminator_in, chosen_in};
 
-use crate::member::{mmember, option};
-use crate::value::value;
-use book::labels::Found;
+use crate::Deserializer;
 use book::member::{id, is_optional, members, type_index};
-use choice::discriminator::{Discriminator, discriminator_at};
+use choice::discriminator::{Unsaid, discriminator_at};
 use choice::select::select;
-use table::out::{Out, Refusal};
+use table::out::{Out, Refusal, Trouble};
 use wire::cursor::Cursor;
-use wire::settings::Settings;
 
-// Serialization rules 26 to 28: the parts of a union, whose type is at `at`: its discriminator, and the member that this selects.
-#[cycle(reading)]
-pub fn parts(
-    book: &[u8],
-    index: &[u32],
-    s: &[u8],
-    set: Settings,
-    t: &mut [u64],
-    at: usize,
-    mutable: bool,
-    c: Cursor,
-    n: usize,
-    depth: usize,
-) -> Out
-    ensures { Done (union_in book.now index.now s.now set depth mutable (type_at book.now at) c (room t.old n)) n t.old t.new result }
-{
-    let ms = members(book, at);
-    let p = ms.at;
-    if ms.left == 0 {
-        return Out::Refused(Refusal::InvalidType);
+impl<'a> Deserializer<'a> {
+    // Serialization rules 26 to 28: the parts of a union, whose type is at `at`: its discriminator, and the member that this selects.
+    #[cycle(reading)]
+    pub fn parts(
+        self,
+        t: &mut [u64],
+        at: usize,
+        mutable: bool,
+        c: Cursor,
+        n: usize,
+        depth: usize,
+    ) -> Out
+        ensures { Done (union_in self.entry depth mutable (type_at self.entry.types.book.now at) c (room t.old n)) n t.old t.new result }
+    {
+        let Some(p) = members(self.types.book, at).next() else {
+            return Err(Trouble::Refused(Refusal::InvalidType));
+        };
+        let (d, m) = self.first(t, p, mutable, c, n, depth)?;
+        let v = discriminator_at(t, n, m);
+        self.chosen(t, at, p, mutable, v, d, m, depth)
     }
-    match first(book, index, s, set, t, p, mutable, c, n, depth) {
-        Out::Read(d, m) => {
-            let v = discriminator_at(t, n, m);
-            chosen(book, index, s, set, t, at, p, mutable, v, d, m, depth)
+
+    // The first member, at p, which is the discriminator: a Mutable union's is looked up, any other's read as not optional.
+    #[cycle(reading)]
+    pub fn first(
+        self,
+        t: &mut [u64],
+        p: usize,
+        mutable: bool,
+        c: Cursor,
+        n: usize,
+        depth: usize,
+    ) -> Out
+        ensures { Done (discriminator_in self.entry depth mutable (member_at self.entry.types.book.now p) c (room t.old n)) n t.old t.new result }
+    {
+        if mutable {
+            return self.mmember(t, p, c, n, depth);
         }
-        Out::Short(x) => Out::Short(x),
-        Out::Refused(k) => Out::Refused(k),
+        let book = self.types.book;
+        self.value(t, type_index(book, p), u64::from(id(book, p)), c, n, depth)
     }
-}
 
-// The first member, at p, which is the discriminator: a Mutable union's is looked up, any other's read as not optional.
-#[cycle(reading)]
-pub fn first(
-    book: &[u8],
-    index: &[u32],
-    s: &[u8],
-    set: Settings,
-    t: &mut [u64],
-    p: usize,
-    mutable: bool,
-    c: Cursor,
-    n: usize,
-    depth: usize,
-) -> Out
-    ensures { Done (discriminator_in book.now index.now s.now set depth mutable (member_at book.now p) c (room t.old n)) n t.old t.new result }
-{
-    if mutable {
-        return mmember(book, index, s, set, t, p, c, n, depth);
-    }
-    value(
-        book,
-        index,
-        s,
-        set,
-        t,
-        type_index(book, p),
-        id(book, p) as u64,
-        c,
-        n,
-        depth,
-    )
-}
-
-// The member that the discriminator at p selects.
-#[cycle(reading)]
-pub fn chosen(
-    book: &[u8],
-    index: &[u32],
-    s: &[u8],
-    set: Settings,
-    t: &mut [u64],
-    at: usize,
-    p: usize,
-    mutable: bool,
-    v: Discriminator,
-    c: Cursor,
-    n: usize,
-    depth: usize,
-) -> Out
-    ensures { Done (chosen_in book.now index.now s.now set depth mutable (member_at book.now p) (type_at book.now at) c (room t.old n) v) n t.old t.new result }
-{
-    match v {
-        Discriminator::Absent => Out::Refused(Refusal::NoDiscriminator),
-        Discriminator::Unfit => Out::Refused(Refusal::InvalidType),
-        Discriminator::Value(d) => match select(book, index, at, p, d) {
-            Found::Nothing => Out::Refused(Refusal::InvalidData),
-            Found::At(q) => {
-                if mutable {
-                    return mmember(book, index, s, set, t, q, c, n, depth);
-                }
-                if is_optional(book, q) {
-                    return option(book, index, s, set, t, q, c, n, depth);
-                }
-                value(
-                    book,
-                    index,
-                    s,
-                    set,
-                    t,
-                    type_index(book, q),
-                    id(book, q) as u64,
-                    c,
-                    n,
-                    depth,
-                )
-            }
-        },
+    // The member that the discriminator at p selects, of the union at `at`.
+    #[cycle(reading)]
+    pub fn chosen(
+        self,
+        t: &mut [u64],
+        at: usize,
+        p: usize,
+        mutable: bool,
+        v: Result<i32, Unsaid>,
+        c: Cursor,
+        n: usize,
+        depth: usize,
+    ) -> Out
+        ensures { Done (chosen_in self.entry depth mutable (member_at self.entry.types.book.now p) (type_at self.entry.types.book.now at) c (room t.old n) v) n t.old t.new result }
+    {
+        let d = v?;
+        let Some(q) = select(&self.types, at, p, d) else {
+            return Err(Trouble::Refused(Refusal::InvalidData));
+        };
+        if mutable {
+            return self.mmember(t, q, c, n, depth);
+        }
+        let book = self.types.book;
+        if is_optional(book, q) {
+            return self.option(t, q, c, n, depth);
+        }
+        self.value(t, type_index(book, q), u64::from(id(book, q)), c, n, depth)
     }
 }

@@ -22,78 +22,73 @@ const WORDS: usize = 10240;
 // The most entries of a list.
 const ENTRIES: usize = 100000;
 
-fn filled(from: &mut impl Read, part: &mut [u8]) -> bool {
-    read_full(from, part) == part.len()
+// How an entry is read, and whether what is told of answer 1 is a line more.
+#[derive(Clone, Copy)]
+struct Manner {
+    mode: Mode,
+    tells: bool,
 }
 
-fn mode_of(mode: u8) -> Mode {
-    match mode {
-        0 => Mode::Crate,
-        2 => Mode::Crate,
+fn manner_of(byte: u8) -> Manner {
+    let mode = match byte {
+        0 | 2 => Mode::Crate,
         _ => Mode::Standard,
+    };
+    Manner {
+        mode,
+        tells: 2 <= byte,
     }
 }
 
-fn say(rt: &impl Print, book: &[u8], root: usize, message: &[u8], mode: u8, table: &mut [u64]) {
-    let a = sinotayam::read(book, root, message, mode_of(mode), table);
-    cases::lines::answer(rt, a, table);
-    // The need is over 0 where the answer is 1, and else 0.
-    let told = a.told;
-    if (2 <= mode) & (0 < told.need) {
-        cases::lines::told(rt, told);
+// Fills the part; None where the input ends before.
+fn fill(from: &mut impl Read, part: &mut [u8]) -> Option<()> {
+    if read_full(from, part) < part.len() {
+        return None;
     }
+    Some(())
 }
 
-// Reads the message with the first `rows` rows of the table; false where it has fewer.
-fn read(
+fn say(
     rt: &impl Print,
     book: &[u8],
     root: usize,
     message: &[u8],
-    mode: u8,
+    manner: Manner,
     table: &mut [u64],
-    rows: usize,
-) -> bool {
-    if table.len() / WIDTH < rows {
-        return false;
+) {
+    let a = sinotayam::read(book, root, message, manner.mode, table);
+    cases::lines::answer(rt, a, table);
+    // The need is over 0 where the answer is 1, and else 0.
+    if manner.tells & (0 < a.told.need) {
+        cases::lines::told(rt, a.told);
     }
-    let words = rows * WIDTH;
-    say(rt, book, root, message, mode, &mut table[0..words]);
-    true
 }
 
-// Reads the rest of the entry whose first seven bytes stand in buf, and its message; false where it is no whole entry.
-fn entry(rt: &impl Print, from: &mut impl Read, buf: &mut [u8], table: &mut [u64]) -> bool {
-    let mode = byte_at(buf, 0, 0) as u8;
+// Reads the rest of the entry whose first seven bytes stand in buf, and its message with the first rows of the table; None where it is no whole entry, or
+// the table has fewer rows.
+fn entry(rt: &impl Print, from: &mut impl Read, buf: &mut [u8], table: &mut [u64]) -> Option<()> {
+    let manner = manner_of(byte_at(buf, 0, 0) as u8);
     let rows = pair_at(buf, 1, 0);
     let book = quad_at(buf, 3, 0) as usize + 3;
     let start = book + 6;
-    if buf.len() < start {
-        return false;
-    }
-    if !filled(from, &mut buf[7..start]) {
-        return false;
-    }
+    fill(from, buf.get_mut(7..start)?)?;
     let root = pair_at(buf, book, 0);
     let end = quad_at(buf, book, 2) as usize + start;
-    if buf.len() < end {
-        return false;
-    }
-    if !filled(from, &mut buf[start..end]) {
-        return false;
-    }
-    read(rt, &buf[3..book], root, &buf[start..end], mode, table, rows)
+    fill(from, buf.get_mut(start..end)?)?;
+    let part = table.get_mut(..rows * WIDTH)?;
+    say(rt, &buf[3..book], root, &buf[start..end], manner, part);
+    Some(())
 }
 
 // Reads one entry, if there is one more; false where the list is at its end, or has no whole entry there.
 fn next(rt: &impl Print, from: &mut impl Read, buf: &mut [u8], table: &mut [u64]) -> bool {
-    if buf.len() < 7 {
+    let Some(first) = buf.get_mut(..7) else {
+        return false;
+    };
+    if read_full(from, first) == 0 {
         return false;
     }
-    if read_full(from, &mut buf[0..7]) == 0 {
-        return false;
-    }
-    if entry(rt, from, buf, table) {
+    if entry(rt, from, buf, table).is_some() {
         return true;
     }
     let _ = rt.write_all(b"input\n");

@@ -1,7 +1,7 @@
 // Reads one case from standard input, and prints the answer and its rows.
 #![tactic(auto)]
 
-use cases::input::{Reply, read_case, read_full};
+use cases::input::{read_case, read_full};
 
 // A book and a message of 65,536 bytes, the six bytes between them, and one more, by which an input that is too long is known.
 const LONGEST: usize = 131079;
@@ -12,10 +12,10 @@ const WORDS: usize = 8192;
 fn say(rt: &impl Print, s: &[u8]) {
     let mut table = [0u64; WORDS];
     match read_case(s, &mut table) {
-        Reply::Given(a) => {
+        Some(a) => {
             cases::lines::answer(rt, a, &table);
         }
-        Reply::Wrong => {
+        None => {
             let _ = rt.write_all(b"input\n");
         }
     }

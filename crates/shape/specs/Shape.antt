@@ -10,7 +10,7 @@ use Rattle.table.specs.declared.rows.Row.{Row}
 use Rattle.table.specs.Rows.{row}
 use Rattle.choice.specs.Discriminator.{discriminator_of}
 use Rattle.choice.specs.Select.{selected_of}
-use Rattle.choice.specs.declared.discriminator.Discriminator.TheVariants as discriminator
+use Rattle.std.specs.Prelude.{Ok}
 use Rattle.shape.specs.Range.{in_range}
 
 -- x stands in the list
@@ -75,7 +75,7 @@ mutual
     structure : {t : BookType} {rs : List Row} → t.kind ≡ 22 → Members types s t.members rs → Beneath types s t rs
     -- the discriminator, and the one other member that its value selects
     union : {t : BookType} {disc m : Member} {others : List Member} {ds rs : List Row} (value : ℤ) → t.kind ≡ 23 → t.members ≡ disc ∷ others
-        → Held types s disc ds → discriminator_of ds ≡ discriminator.Value value
+        → Held types s disc ds → discriminator_of ds ≡ Ok value
         → selected_of types disc (disc ∷ others) value ≡ some m → OneOf m others
         → Held types s m rs → Beneath types s t (ds ++ rs)
 

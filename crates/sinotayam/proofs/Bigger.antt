@@ -1,5 +1,6 @@
 -- ORDER 13 OF THE CALLS: a bigger table changes nothing, and some table is big enough. The statements cite only definitions of `specs/`. Assumes
 -- nothing.
+use Rattle.std.specs.Prelude.{Ok, Err, None, Some}
 use Prim.Native.Nat.{ℕ, ◌%◌, ◌≤◌, ◌<◌}
 use mathlib.Core.Path.{◌≡◌, refl, sym, ap, ◌∙◌}
 use mathlib.Core.Bool.{Bool, true, false}
@@ -9,13 +10,9 @@ use lib.Dec.{eqb, leb, ltb}
 use lib.ListN.{length, get_or, drop}
 use Rattle.wire.specs.declared.cursor.Told.{Told}
 use Rattle.wire.specs.declared.settings.Mode.{Mode}
-use Rattle.wire.specs.declared.settings.Representation.{Representation}
-use Rattle.wire.specs.declared.settings.Representation.TheVariants.{Known, Unknown}
-use Rattle.wire.specs.Identifier.{settings_of}
+use Rattle.wire.specs.Identifier.{Representation, settings_of}
 use Rattle.book.specs.Types.{BookType, types_of}
-use Rattle.book.specs.declared.fault.Fault.{Fault}
-use Rattle.book.specs.declared.fault.Fault.TheVariants.{Nothing, In}
-use Rattle.book.specs.Fault.{fault_of}
+use Rattle.book.specs.Fault.{Verdict, fault_of}
 use Rattle.book.proofs.Faults.{reason_told}
 use Rattle.table.specs.Rows.{capacity}
 use Rattle.table.specs.Outcome.{Outcome, read, short, refused, refusal_number, number_of}
@@ -73,8 +70,8 @@ steady_reading answer same some =
 module _ (types : List BookType) (root : ℕ) where
   steady_identifier : (s : List ℕ) (r : Representation) → Steady (λ room. by_identifier types root s room r)
   unfolding by_identifier code_of
-  steady_identifier s Unknown = steady_refused InvalidData (λ e. omega arith)
-  steady_identifier s (Known set) = steady_reading (reading types s set root) (bigger_table types s set root) (some_table types s set root)
+  steady_identifier s None = steady_refused InvalidData (λ e. omega arith)
+  steady_identifier s (Some set) = steady_reading (reading types s set root) (bigger_table types s set root) (some_table types s set root)
 
   steady_message : (message : List ℕ) (mode : Mode) → Steady (λ room. message_by types root message mode room)
   unfolding message_by code_of
@@ -97,9 +94,9 @@ steady_book : (book : List ℕ) (next : List BookType → ℕ → Result) → St
 unfolding with_book by_fault code_of
 steady_book book next p = by_fault_law (fault_of book)
   where
-    by_fault_law : (f : Fault) → Steady (λ room. by_fault f (next (types_of book) room))
-    by_fault_law Nothing = p
-    by_fault_law (In k why) = steady_refused (BadBook why) (λ e. omega (arith, (reason_told why).low))
+    by_fault_law : (f : Verdict) → Steady (λ room. by_fault f (next (types_of book) room))
+    by_fault_law (Ok u) = p
+    by_fault_law (Err x) = steady_refused (BadBook x.reason) (λ e. omega (arith, (reason_told x.reason).low))
 
 steady_index : (book index : List ℕ) (next : List BookType → ℕ → Result) → Steady (next (types_in book index)) → Steady (λ room. with_index book index (λ types. next types room))
 unfolding with_index code_of

@@ -1,4 +1,5 @@
 -- DEMAND 3 OF THE CALLS: a message, or data, of a type that the check passes. The statements cite only definitions of `specs/`. Assumes nothing.
+use Rattle.std.specs.Prelude.{None, Some}
 use Prim.Native.Nat.{ℕ, ◌+◌, ◌%◌, ◌<◌}
 use mathlib.Core.Path.{◌≡◌, refl, sym, ◌∙◌}
 use mathlib.Core.Bool.{Bool, true, false}
@@ -10,9 +11,7 @@ use lib.Seq.{get_or-drop}
 use borrow.Author.Tests.{ltb-true, lt-leb}
 use Rattle.wire.specs.declared.cursor.Told.{Told}
 use Rattle.wire.specs.declared.settings.Mode.{Mode}
-use Rattle.wire.specs.declared.settings.Representation.{Representation}
-use Rattle.wire.specs.declared.settings.Representation.TheVariants.{Known, Unknown}
-use Rattle.wire.specs.Identifier.{settings_of}
+use Rattle.wire.specs.Identifier.{Representation, settings_of}
 use Rattle.book.proofs.Faults.{reason_told, right_told}
 use Rattle.book.specs.Types.{BookType, types_of, type_count}
 use Rattle.book.proofs.Good.{length_types}
@@ -51,8 +50,8 @@ module _ (book s : List ℕ) (root : ℕ) where
 
   identified : AreBytes s → (room : ℕ) (only : Bool) (r : Representation) → check_of book root only ≡ 0 → Safe book s root (by_identifier (types_of book) root s room r)
   unfolding by_identifier code_of result_of
-  identified bytes room only Unknown e = before InvalidData (of_reading invalid_data) (λ z. omega arith)
-  identified bytes room only (Known set) e =
+  identified bytes room only None e = before InvalidData (of_reading invalid_data) (λ z. omega arith)
+  identified bytes room only (Some set) e =
       let u = demand_3 book s bytes set root room only e in
       record { number = of_reading u.number; rows = u.rows }
 

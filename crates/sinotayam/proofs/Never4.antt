@@ -1,4 +1,5 @@
 -- NO PUBLIC CALL EVER ANSWERS 4 (order 13). The statements cite only definitions of `specs/`. Assumes nothing.
+use Rattle.std.specs.Prelude.{Ok, Err, None, Some}
 use Prim.Native.Nat.{ℕ, ◌%◌}
 use mathlib.Core.Path.{◌≡◌, refl, sym, ◌∙◌}
 use mathlib.Core.Bool.{Bool, true, false}
@@ -6,17 +7,14 @@ use mathlib.Core.List.{List}
 use native.Mathlib.Omega.{arith}
 use Rattle.ground.specs.Choice.{pick}
 use Rattle.wire.specs.declared.settings.Mode.{Mode}
-use Rattle.book.specs.declared.fault.Fault.{Fault}
-use Rattle.book.specs.declared.fault.Fault.TheVariants.{Nothing, In}
-use Rattle.book.specs.Fault.{reason_number, fault_number, fault_of}
+use Rattle.book.specs.Fault.{Verdict, reason_number, fault_number, fault_of}
 use Rattle.book.proofs.Faults.{reason_told, told_wrong, told_nothing}
 use Rattle.table.specs.Rows.{capacity}
 use Rattle.fit.specs.Check.{check_of}
 use Rattle.fit.specs.Demand3.{Checked, fit, bad_book, bad_root, unfit}
 use Rattle.fit.proofs.Demand3.{check_says}
 use Rattle.sinotayam.specs.declared.answer.Answer.{Answer}
-use Rattle.sinotayam.specs.declared.texts.Span.{Span}
-use Rattle.sinotayam.specs.declared.texts.Span.TheVariants.{At, Nothing}
+use Rattle.sinotayam.specs.Text.{Span}
 use Rattle.sinotayam.specs.Answer.{Result, code_of, Settled, Returned}
 use Rattle.sinotayam.specs.Entry.{read_of, read_data_of}
 use Rattle.sinotayam.specs.Prepared.{has_places, prepare_of, read_prepared, read_data_prepared}
@@ -82,16 +80,16 @@ prepare_never_4 book lent e = by_fault_law (fault_of book) refl
     by_room true h = omega arith
     by_room false h = omega arith
 
-    by_fault_law : (f : Fault) → fault_of book ≡ f → ⊥
-    by_fault_law Nothing h = by_room (has_places book lent) (rw (told_nothing book h) at e)
-    by_fault_law (In k why) h =
-        let z : reason_number why ≡ 4 = rw (told_wrong book k why h, h) at e in
-        omega (arith, (reason_told why).low)
+    by_fault_law : (f : Verdict) → fault_of book ≡ f → ⊥
+    by_fault_law (Ok u) h = by_room (has_places book lent) (rw (told_nothing book h) at e)
+    by_fault_law (Err x) h =
+        let z : reason_number x.reason ≡ 4 = rw (told_wrong book x.at x.reason h, h) at e in
+        omega (arith, (reason_told x.reason).low)
 
 span_not_four : (p : Span) → span_number p ≡ 4 → ⊥
 unfolding span_number
-span_not_four (At start n) e = omega arith
-span_not_four Nothing e = omega arith
+span_not_four (Some (start, n)) e = omega arith
+span_not_four None e = omega arith
 
 pub text_never_4 : (table : List ℕ) (row : ℕ) (s : List ℕ) → text_number table row s ≡ 4 → ⊥
 text_never_4 table row s = span_not_four (span_in table row s)

@@ -5,8 +5,6 @@ use mathlib.Core.Bool.{true, false}
 use lib.Dec.{eqb, ltb}
 use borrow.Author.Tests.{eqb-false, ltb-true}
 use native.Mathlib.Omega.{arith}
-use Rattle.book.specs.declared.fault.Reason.{Reason}
-use Rattle.book.specs.Fault.{reason_number}
 use Rattle.book.proofs.Faults.{reason_told}
 use Rattle.sinotayam.specs.declared.answer.Status.{Status}
 use Rattle.sinotayam.specs.declared.answer.Status.TheVariants.{Read, NotEnoughData, InvalidData, InvalidType, NotPrepared, BadRoot, TooLong, Unsupported, TooDeep, NoRoom, NoDiscriminator, NotText, Unfit, BadBook}
@@ -37,11 +35,6 @@ status_not_four NoDiscriminator = by_tests 14 refl refl
 status_not_four NotText = by_tests 15 refl refl
 status_not_four Unfit = by_tests 16 refl refl
 status_not_four (BadBook why) = let n = reason_told why in record { other = λ e. omega (arith, n.low); small = omega (arith, n.high) }
-
--- the number of a bad book is its reason's
-pub code_reason : (status : Status) (why : Reason) (n : ℕ) → status ≡ BadBook why → n ≡ reason_number why → n ≡ code_of status
-unfolding code_of
-code_reason status why n e f = rw e f
 
 pub listed_not_four : {n : ℕ} → Listed n → NotFour n
 listed_not_four l = rw (← l.1) (status_not_four l.0)

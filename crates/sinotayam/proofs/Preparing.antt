@@ -1,4 +1,5 @@
 -- Laws of an index: what preparing leaves, how many types it holds, and that reading with it is reading with the book. Assumes nothing.
+use Rattle.std.specs.Prelude.{Ok, Err, Option, None, Some}
 use mathlib.Core.Path.{◌≡◌, refl, sym, ap, ◌∙◌}
 use mathlib.Core.Bool.{Bool, true, false}
 use mathlib.Core.List.{List, [], ◌∷◌, ◌++◌, append-nil}
@@ -6,27 +7,25 @@ use Prim.Native.Nat.{ℕ, zero, suc, ◌+◌, ◌-◌, ◌≤◌, ◌<◌}
 use native.Mathlib.Omega.{arith}
 use native.Mathlib.Nat.{le_refl}
 use lib.Dec.{ltb}
-use lib.ListN.{length, get_or, take, drop, set, length-append, length-take, length-drop, drop_of_length-le}
+use lib.ListN.{length, get_or, take, drop, set, drop_of_length-le}
 use lib.Seq.{take_at, take-length}
 use borrow.Rule.Slice.PartMut.{put_mid}
-use borrow.Author.Tests.{le-ltb, lt-ltb, eq-eqb, ne_eqb}
+use borrow.Author.Tests.{lt-ltb, eq-eqb, ne_eqb}
 use Rattle.book.specs.Types.{BookType, type_count, types_of}
 use Rattle.book.specs.Places.{from, places_from, index_count, indexed, types_by}
 use Rattle.ground.specs.Choice.{pick}
 use Rattle.book.specs.Rules.{head_ok, book_ok}
-use Rattle.book.specs.declared.fault.Reason.{Reason}
 use Rattle.book.specs.declared.fault.Fault.{Fault}
-use Rattle.book.specs.declared.fault.Fault.TheVariants.{Nothing, In}
-use Rattle.book.specs.Fault.{reason_number, fault_number, fault_of}
+use Rattle.book.specs.declared.index.Types.{Types}
+use Rattle.book.specs.Fault.{Verdict, reason_number, fault_number, fault_of}
 use Rattle.book.proofs.Indexing.{places_spell, length_places}
 use Rattle.book.proofs.Good.{head_good, count_good}
 use Rattle.book.proofs.Faults.{reason_told, told_wrong, told_nothing, right_told}
-use Rattle.sinotayam.specs.declared.answer.Status.{Status}
-use Rattle.sinotayam.specs.declared.answer.Status.TheVariants.{Read, NotPrepared, NoRoom, BadBook}
+use Rattle.sinotayam.specs.declared.answer.Status.TheVariants.{Read, NotPrepared, BadBook}
 use Rattle.sinotayam.specs.declared.answer.Answer.{Answer}
 use Rattle.sinotayam.specs.Answer.{code_of, Result, refused_by, Settled}
 use Rattle.sinotayam.specs.Entry.{refused_if, by_fault, with_book}
-use Rattle.sinotayam.specs.Prepared.{has_places, prepare_of, prepared_from, places_in, with_index}
+use Rattle.sinotayam.specs.Prepared.{HeldIn, has_places, prepare_of, prepared_from, places_in, with_index}
 use Rattle.sinotayam.proofs.Settling.{settled_same}
 
 -- PREPARING
@@ -39,64 +38,31 @@ after_count b (x ∷ xs) n ys g few h k =
     let e : ys ≡ places_from b 7 (type_count b) ++ drop (type_count b) xs = rw (l, take-length xs, c) at k in
     rw (l, drop_of_length-le xs (le_refl (length xs)), append-nil, e, g)
 
-pub set_none : (l : List ℕ) (k : ℕ) → length l ≡ 0 → l ≡ set l 0 k
-set_none [] k e = refl
-set_none (x ∷ xs) k e = absurd (omega arith)
+-- a book that breaks a rule
+pub not_right : (b : List ℕ) (x : Fault) → fault_of b ≡ Err x → book_ok b ≡ false
+not_right b x is = told_wrong b x.at x.reason is
 
-module _ (b lent : List ℕ) where
-  -- a book that breaks a rule
-  module _ (f : Fault) (found : f ≡ fault_of b) (k : ℕ) (why : Reason) (is : f ≡ In k why) where
-    broken : fault_of b ≡ In k why
-    broken = sym found ∙ is
+-- an index with all places, of a right book
+module _ (b lent : List ℕ) (is : fault_of b ≡ Ok tt) (n : ℕ) (g : n ≡ type_count b) (h : n < length lent) where
+  kept : book_ok b ≡ true
+  kept = told_nothing b is
 
-    pub prepare_bad : (r : Status) → r ≡ BadBook why → code_of r ≡ prepare_of b lent
-    unfolding prepare_of code_of fault_number
-    prepare_bad r g = rw (told_wrong b k why broken, broken, g)
+  pub prepare_good : code_of Read ≡ prepare_of b lent
+  unfolding prepare_of has_places code_of
+  prepare_good = rw (kept, lt-ltb (type_count b) (length lent) (omega (arith, g, h)))
 
-    pub index_bad : (u : List ℕ) → u ≡ set lent 0 0 → u ≡ prepared_from b lent
-    unfolding prepared_from
-    index_bad u g = rw (told_wrong b k why broken) g
+  pub index_good : (ys : List ℕ) → ys ≡ indexed b (take (length lent - 1) (drop 1 lent)) → set (put_mid 1 (length lent - 1) lent ys) 0 n ≡ prepared_from b lent
+  unfolding prepared_from has_places
+  index_good ys k =
+      rw (kept, lt-ltb (type_count b) (length lent) (omega (arith, g, h))) (after_count b lent n ys g (count_good b kept).1 h k)
 
-  module _ (is : fault_of b ≡ Nothing) where
-    kept : book_ok b ≡ true
-    kept = told_nothing b is
-
-    -- an index that is too short
-    pub prepare_short : (r : Status) (n : ℕ) → n ≡ type_count b → length lent ≤ n → r ≡ NoRoom → code_of r ≡ prepare_of b lent
-    unfolding prepare_of has_places code_of
-    prepare_short r n g h k = rw (kept, le-ltb (type_count b) (length lent) (omega arith), k)
-
-    pub index_short : (u : List ℕ) (n : ℕ) → n ≡ type_count b → length lent ≤ n → u ≡ set lent 0 0 → u ≡ prepared_from b lent
-    unfolding prepared_from has_places
-    index_short u n g h k = rw (kept, le-ltb (type_count b) (length lent) (omega arith)) k
-
-    -- an index with all places
-    pub prepare_good : (n : ℕ) → n ≡ type_count b → n < length lent → code_of Read ≡ prepare_of b lent
-    unfolding prepare_of has_places code_of
-    prepare_good n g h = rw (kept, lt-ltb (type_count b) (length lent) (omega arith))
-
-    pub index_good : (n : ℕ) (ys : List ℕ) → n ≡ type_count b → n < length lent → ys ≡ indexed b (take (length lent - 1) (drop 1 lent)) → set (put_mid 1 (length lent - 1) lent ys) 0 n ≡ prepared_from b lent
-    unfolding prepared_from has_places
-    index_good n ys g h k =
-        rw (kept, lt-ltb (type_count b) (length lent) (omega arith)) (after_count b lent n ys g (count_good b kept).1 h k)
-
--- what the judge found, of the book
-pub judged_nothing : (b : List ℕ) (f : Fault) → f ≡ fault_of b → f ≡ Nothing → fault_of b ≡ Nothing
-judged_nothing b f e h = sym e ∙ h
-
--- HOW MANY TYPES AN INDEX HOLDS
-module _ (index : List ℕ) where
-  pub count_none : length index ≡ 0 → 0 ≡ length (places_in index)
-  unfolding places_in
-  count_none e = simp (length-take, length-drop) (omega arith)
-
-  pub count_all : (n : ℕ) → n ≡ get_or index 0 0 → length index - 1 < n → length index - 1 ≡ length (places_in index)
-  unfolding places_in
-  count_all n e h = simp (length-take, length-drop) (omega arith)
-
-  pub count_said : (n : ℕ) → n ≡ get_or index 0 0 → n ≤ length index - 1 → n ≡ length (places_in index)
-  unfolding places_in
-  count_said n e h = simp (length-take, length-drop) (omega arith)
+-- the same of 65 words, as the judge leaves them
+pub own_index : (b own ys : List ℕ) (n : ℕ) → fault_of b ≡ Ok tt → length own ≡ 65 → n ≡ type_count b → ys ≡ pick (head_ok b) (indexed b (take 64 (drop 1 own))) (take 64 (drop 1 own)) → set (put_mid 1 64 own ys) 0 n ≡ prepared_from b own
+own_index b own ys n is l g k =
+    let e : book_ok b ≡ true = told_nothing b is in
+    let m : length own - 1 ≡ 64 = omega (arith, l) in
+    let w : ys ≡ indexed b (take (length own - 1) (drop 1 own)) = rw (m) (rw (head_good b e) at k) in
+    rw (m) at (index_good b own is n g (omega (arith, l, g, (count_good b e).1)) ys w)
 
 -- READING WITH AN INDEX
 take_taken : (k : ℕ) (l : List ℕ) → take (length (take k l)) l ≡ take k l
@@ -111,16 +77,20 @@ places_part index n is =
     let k : n + 1 - 1 ≡ length (take (get_or index 0 0) (drop 1 index)) = omega arith in
     rw k (take_taken (get_or index 0 0) (drop 1 index))
 
-module _ (b index : List ℕ) (next : List BookType → Result) (n : ℕ) (is : n ≡ length (places_in index)) (t v : List ℕ) (r : Answer) where
-  pub index_none : n ≡ 0 → Settled (refused_by NotPrepared) t v r → Settled (with_index b index next) t v r
-  unfolding with_index refused_if
-  index_none e d = settled_same (rw (eq-eqb (length (places_in index)) 0 (sym is ∙ e))) d
+pub held_some : (b index : List ℕ) (n : ℕ) (r : Types) → n ≡ length (places_in index) → (n ≡ 0 → ⊥) → r.book.now ≡ b → r.index.now ≡ take (n + 1 - 1) (drop 1 index) → HeldIn b index (Some r)
+unfolding HeldIn
+held_some b index n r is h e f = (e, f ∙ places_part index n is, λ z. h (is ∙ z))
 
-  pub index_some : (n ≡ 0 → ⊥) → Settled (next (types_by b (take (n + 1 - 1) (drop 1 index)))) t v r → Settled (with_index b index next) t v r
-  unfolding with_index refused_if
-  index_some h d =
-      settled_same (rw (ne_eqb (length (places_in index)) 0 (λ (z : length (places_in index) ≡ 0). h (is ∙ z))))
-      (rw (places_part index n is) at d)
+module _ (b index : List ℕ) (h : Option Types) (held : HeldIn b index h) (next : List BookType → Result) (t v : List ℕ) (r : Answer) where
+  pub held_none : h ≡ None → Settled (refused_by NotPrepared) t v r → Settled (with_index b index next) t v r
+  unfolding HeldIn with_index refused_if
+  held_none e d = let z : HeldIn b index None = rw e at held in settled_same (rw (eq-eqb (length (places_in index)) 0 z)) d
+
+  pub held_types : (x : Types) → h ≡ Some x → Settled (next (types_by x.book.now x.index.now)) t v r → Settled (with_index b index next) t v r
+  unfolding HeldIn with_index refused_if
+  held_types x e d =
+      let z : HeldIn b index (Some x) = rw e at held in
+      settled_same (rw (ne_eqb (length (places_in index)) 0 z.2)) (rw (z.0, z.1) at d)
 
 -- PREPARED READING IS READING
 module _ (b lent : List ℕ) (next : List BookType → Result) where
@@ -137,39 +107,24 @@ module _ (b lent : List ℕ) (next : List BookType → Result) where
   unfolding prepare_of fault_number
   prepared_same said = by_fault_law (fault_of b) refl (has_places b lent) refl
     where
-      by_fault_law : (f : Fault) → fault_of b ≡ f → (g : Bool) → has_places b lent ≡ g → with_index b (prepared_from b lent) next ≡ with_book b next
-      by_fault_law Nothing e true h = same_good (told_nothing b e) h
-      by_fault_law Nothing e false h = let z : ◌≡◌ {A = ℕ} 13 0 = rw (told_nothing b e, h) at said in absurd (omega arith)
-      by_fault_law (In k why) e g h =
-          let z : reason_number why ≡ 0 = rw (told_wrong b k why e, e) at said in
-          absurd (omega (arith, (reason_told why).low))
+      by_fault_law : (f : Verdict) → fault_of b ≡ f → (g : Bool) → has_places b lent ≡ g → with_index b (prepared_from b lent) next ≡ with_book b next
+      by_fault_law (Ok u) e true h = same_good (told_nothing b e) h
+      by_fault_law (Ok u) e false h = let z : ◌≡◌ {A = ℕ} 13 0 = rw (told_nothing b e, h) at said in absurd (omega arith)
+      by_fault_law (Err x) e g h =
+          let z : reason_number x.reason ≡ 0 = rw (told_wrong b x.at x.reason e, e) at said in
+          absurd (omega (arith, (reason_told x.reason).low))
 
 -- READING WITH AN INDEX OF ITS OWN, by what the judge found
-module _ (b : List ℕ) (f : Fault) (found : f ≡ fault_of b) (next : List BookType → Result) where
-  pub read_bad : (k : ℕ) (why : Reason) (v w : List ℕ) (r : Answer) → f ≡ In k why → Settled (refused_by (BadBook why)) v w r → Settled (with_book b next) v w r
+module _ (b : List ℕ) (f : Verdict) (found : f ≡ fault_of b) (next : List BookType → Result) where
+  pub read_bad : (x : Fault) (v w : List ℕ) (r : Answer) → f ≡ Err x → Settled (refused_by (BadBook x.reason)) v w r → Settled (with_book b next) v w r
   unfolding with_book by_fault
-  read_bad k why v w r is d = settled_same (rw (← found, is)) d
+  read_bad x v w r is d = settled_same (rw (← found, is)) d
 
-  -- the count, and the words t as the judge leaves them
-  module _ (t ys : List ℕ) (n : ℕ) (is : f ≡ Nothing) (long : 64 ≤ length t) (g : n ≡ type_count b) (k : ys ≡ pick (head_ok b) (indexed b t) t) where
-    own_same : with_index b (n ∷ (ys ++ [])) next ≡ with_book b next
-    unfolding prepared_from has_places
-    own_same =
-        let e : book_ok b ≡ true = told_nothing b (sym found ∙ is) in
-        let few : type_count b ≤ 64 = (count_good b e).1 in
-        let h : ltb (type_count b) (length (0 ∷ t)) ≡ true = lt-ltb (type_count b) (length (0 ∷ t)) (omega arith) in
-        let i : index_count b (length t) ≡ type_count b = omega arith in
-        let w : ys ≡ places_from b 7 (type_count b) ++ drop (type_count b) t = rw (head_good b e, i) at k in
-        let u : n ∷ (ys ++ []) ≡ prepared_from b (0 ∷ t) = rw (e, h, append-nil ys, w, g) in
-        rw u (same_good b (0 ∷ t) next e h)
-
-    pub read_own : (v w : List ℕ) (r : Answer) → Settled (with_index b (n ∷ (ys ++ [])) next) v w r → Settled (with_book b next) v w r
-    read_own v w r d = settled_same (sym own_same) d
-
--- its length
-pub own_words : (b t ys : List ℕ) → ys ≡ pick (head_ok b) (indexed b t) t → length t ≡ 64 → 65 ≡ suc (length (ys ++ []))
-own_words b t ys k l = rw (append-nil ys, k) (by_head (head_ok b))
-  where
-    by_head : (f : Bool) → 65 ≡ suc (length (pick f (indexed b t) t))
-    by_head true = simp (length-append, length_places, length-drop) (omega arith)
-    by_head false = omega arith
+  -- with an index of the call's own, of 65 words
+  pub read_own : (own index : List ℕ) (v w : List ℕ) (r : Answer) → f ≡ Ok tt → length own ≡ 65 → index ≡ prepared_from b own → Settled (with_index b index next) v w r → Settled (with_book b next) v w r
+  unfolding has_places
+  read_own own index v w r is l k d =
+      let e : book_ok b ≡ true = told_nothing b (sym found ∙ is) in
+      let few : type_count b ≤ 64 = (count_good b e).1 in
+      let h : ltb (type_count b) (length own) ≡ true = lt-ltb (type_count b) (length own) (omega arith) in
+      settled_same (sym (rw k (same_good b own next e h))) d

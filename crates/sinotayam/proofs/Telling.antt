@@ -1,5 +1,6 @@
 -- ORDER 6 OF THE CALLS: nothing is told of an answer that is not 1, and of 1 the need is over 0. The statements cite only definitions of `specs/`. Assumes
 -- nothing.
+use Rattle.std.specs.Prelude.{Ok, Err, None, Some}
 use Prim.Native.Nat.{ℕ, ◌+◌, ◌^◌, ◌≤◌, ◌<◌}
 use mathlib.Core.Path.{◌≡◌, refl, sym, ◌∙◌}
 use mathlib.Core.Bool.{Bool, true, false}
@@ -11,13 +12,9 @@ use lib.Seq.{get_or-drop}
 use borrow.Author.Tests.{ltb-true, ltb-false}
 use Rattle.wire.specs.declared.cursor.Told.{Told}
 use Rattle.wire.specs.declared.settings.Mode.{Mode}
-use Rattle.wire.specs.declared.settings.Representation.{Representation}
-use Rattle.wire.specs.declared.settings.Representation.TheVariants.{Known, Unknown}
-use Rattle.wire.specs.Identifier.{settings_of}
+use Rattle.wire.specs.Identifier.{Representation, settings_of}
 use Rattle.book.specs.Types.{BookType, types_of, type_no}
-use Rattle.book.specs.declared.fault.Fault.{Fault}
-use Rattle.book.specs.declared.fault.Fault.TheVariants.{Nothing, In}
-use Rattle.book.specs.Fault.{fault_of}
+use Rattle.book.specs.Fault.{Verdict, fault_of}
 use Rattle.table.specs.Outcome.{Outcome, read, short, refused, refusal_number, number_of, told_of}
 use Rattle.table.specs.declared.out.Refusal.TheVariants as refusal
 use Rattle.reader.specs.Nested.{reading}
@@ -44,10 +41,10 @@ told_if true n next f q = told_refused n f
 told_if false n next f q = q refl
 
 -- a book that breaks a rule is told by 17 to 23
-told_fault : (f : Fault) (next : Result) → ToldOf1 next → ToldOf1 (by_fault f next)
+told_fault : (f : Verdict) (next : Result) → ToldOf1 next → ToldOf1 (by_fault f next)
 unfolding by_fault code_of
-told_fault Nothing next q = q
-told_fault (In k why) next q = told_refused (BadBook why) (λ e. omega (arith, (reason_told why).low))
+told_fault (Ok u) next q = q
+told_fault (Err x) next q = told_refused (BadBook x.reason) (λ e. omega (arith, (reason_told x.reason).low))
 
 told_short : (t : Bool) (told : Told) (next : Result) → (t ≡ true → 0 < told.need) → ToldOf1 next → ToldOf1 (short_if t told next)
 unfolding short_if code_of
@@ -68,8 +65,8 @@ told_outcome (refused refusal.NoDiscriminator) h = record { nothing = λ o. refl
 module _ (types : List BookType) (bounds : (ty : ℕ) → (type_no types ty).bound < 2 ^ 32) (root room : ℕ) where
   told_identifier : (s : List ℕ) → AreBytes s → length s ≤ 65532 → (r : Representation) → ToldOf1 (by_identifier types root s room r)
   unfolding by_identifier code_of
-  told_identifier s bytes fits Unknown = told_refused InvalidData (λ e. omega arith)
-  told_identifier s bytes fits (Known set) = told_outcome (reading types s set root room) (λ x e. (reading_told types s set root room bytes fits bounds x e).some)
+  told_identifier s bytes fits None = told_refused InvalidData (λ e. omega arith)
+  told_identifier s bytes fits (Some set) = told_outcome (reading types s set root room) (λ x e. (reading_told types s set root room bytes fits bounds x e).some)
 
   told_message : (message : List ℕ) (mode : Mode) → AreBytes message → ToldOf1 (message_by types root message mode room)
   unfolding message_by code_of

@@ -1,14 +1,10 @@
 -- The entry points. "Order: 8, 9, 10, message under 4 bytes (1), unknown identifier (2), then the reading."
-use Rattle.std.specs.Prelude.{ℕ, ◌-◌, Bool, true, false, List, leb, ltb, length, get_or, drop}
+use Rattle.std.specs.Prelude.{ℕ, ◌-◌, Bool, true, false, List, leb, ltb, length, get_or, drop, Err, None, Ok, Some}
 use Rattle.wire.specs.declared.cursor.Told.{Told}
 use Rattle.wire.specs.declared.settings.Mode.{Mode}
-use Rattle.wire.specs.declared.settings.Representation.{Representation}
-use Rattle.wire.specs.declared.settings.Representation.TheVariants.{Known, Unknown}
-use Rattle.wire.specs.Identifier.{settings_of}
+use Rattle.wire.specs.Identifier.{Representation, settings_of}
 use Rattle.book.specs.Types.{BookType, types_of}
-use Rattle.book.specs.declared.fault.Fault.{Fault}
-use Rattle.book.specs.declared.fault.Fault.TheVariants.{Nothing, In}
-use Rattle.book.specs.Fault.{fault_of}
+use Rattle.book.specs.Fault.{Verdict, fault_of}
 use Rattle.reader.specs.Nested.{reading}
 use Rattle.sinotayam.specs.declared.answer.Status.{Status}
 use Rattle.sinotayam.specs.declared.answer.Status.TheVariants.{InvalidData, BadBook, BadRoot, TooLong}
@@ -30,8 +26,8 @@ under_four size = record { position = 0; need = 4 - size }
 
 -- "unknown identifier (2), then the reading" of the data
 unfoldable pub by_identifier : List BookType → ℕ → List ℕ → ℕ → Representation → Result
-by_identifier types root s room Unknown = refused_by InvalidData
-by_identifier types root s room (Known set) = result_of (reading types s set root room)
+by_identifier types root s room None = refused_by InvalidData
+by_identifier types root s room (Some set) = result_of (reading types s set root room)
 
 -- a message of a type of these: two bytes of identifier, two of options, then the data.
 -- 9, "BadRoot: root index not below the number of types", 10, "TooLong: message over 65,536 bytes", "message under 4 bytes (1)"
@@ -50,9 +46,9 @@ data_by types root id s mode room =
     (by_identifier types root s room (settings_of mode (get_or id 0 0) (get_or id 1 0))))
 
 -- 8, "BadBook: a book rule below is broken": order 2, "8 becomes 17 to 23 ..; places after it stay". Where nothing is wrong, what follows
-unfoldable pub by_fault : Fault → Result → Result
-by_fault Nothing next = next
-by_fault (In k why) next = refused_by (BadBook why)
+unfoldable pub by_fault : Verdict → Result → Result
+by_fault (Ok u) next = next
+by_fault (Err f) next = refused_by (BadBook f.reason)
 
 -- what follows has the types of the book
 unfoldable pub with_book : List ℕ → (List BookType → Result) → Result

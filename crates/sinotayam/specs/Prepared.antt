@@ -1,10 +1,11 @@
 -- A book judged once, and read with many times by its index. The first word of an index says how many types it holds; then the place of
 -- each in the book. An index of no types is what a refused book leaves.
-use Rattle.std.specs.Prelude.{ℕ, suc, Bool, List, ◌∷◌, ◌++◌, eqb, ltb, length, get_or, take, drop, set}
+use Rattle.std.specs.Prelude.{ℕ, suc, ◌≡◌, Bool, List, ◌∷◌, ◌++◌, eqb, ltb, length, get_or, take, drop, set, Option, None, Some}
 use Rattle.ground.specs.Choice.{pick, both}
 use Rattle.wire.specs.declared.settings.Mode.{Mode}
 use Rattle.book.specs.Types.{BookType, type_count}
 use Rattle.book.specs.Places.{places_from, types_by}
+use Rattle.book.specs.declared.index.Types.{Types}
 use Rattle.book.specs.Rules.{book_ok}
 use Rattle.book.specs.Fault.{fault_number, fault_of}
 use Rattle.sinotayam.specs.declared.answer.Status.TheVariants.{NotPrepared}
@@ -28,6 +29,11 @@ prepared_from book lent =
 -- the places that an index holds: as many as it says, and no more than it has
 unfoldable pub places_in : List ℕ → List ℕ
 places_in index = take (get_or index 0 0) (drop 1 index)
+
+-- r is what the index holds: the book and those places, or nothing where there is none
+unfoldable pub HeldIn : List ℕ → List ℕ → Option Types → Type 0
+HeldIn book index None = length (places_in index) ≡ 0
+HeldIn book index (Some r) = (r.book.now ≡ book) × (r.index.now ≡ places_in index) × (length (places_in index) ≡ 0 → ⊥)
 
 -- the types that stand at these places, whatever the index holds
 abbrev pub types_in : List ℕ → List ℕ → List BookType

@@ -27,6 +27,7 @@ pub enum Status {
     BadBook(Reason),
 }
 
+// No Result: document 01 defines an answer as a number and a count of rows, and order 6 of document 02 adds what is told, whatever the number.
 #[derive(Clone, Copy)]
 pub struct Answer {
     pub status: Status,
@@ -35,8 +36,15 @@ pub struct Answer {
     pub told: Told,
 }
 
+// What is told of any other status.
+pub const NOTHING: Told = Told {
+    position: 0,
+    need: 0,
+};
+
 impl Status {
     // The number as documents 01 and 02 write it.
+    #[tactic(auto, using(std::proofs::lemmas::Bool::Decides::nat_tests), unfolding(crate::specs::Answer::code_of))]
     pub fn code(self) -> u8
         ensures { result ≡ code_of self }
     {
@@ -57,10 +65,13 @@ impl Status {
             Status::BadBook(why) => why.number(),
         }
     }
+}
 
-    pub fn of_refusal(k: Refusal) -> Status
-        ensures { code_of result ≡ refusal_number k }
-    {
+impl From<Refusal> for Status {
+    ghost from_gives = { λ k s. code_of s ≡ refusal_number k };
+
+    #[tactic(auto, using(std::proofs::lemmas::Bool::Decides::nat_tests), unfolding(crate::specs::Answer::code_of, table::specs::Outcome::refusal_number))]
+    fn from(k: Refusal) -> Status {
         match k {
             Refusal::InvalidData => Status::InvalidData,
             Refusal::InvalidType => Status::InvalidType,
@@ -77,14 +88,10 @@ pub fn refused(table: &mut [u64], status: Status) -> Answer
     ensures { Settled (refused_by status) table.old table.new result }
 {
     clear_after(table, 0);
-    let told = Told {
-        position: 0,
-        need: 0,
-    };
     Answer {
         status,
         rows: 0,
-        told,
+        told: NOTHING,
     }
 }
 
@@ -92,7 +99,8 @@ pub fn refused(table: &mut [u64], status: Status) -> Answer
 pub fn short(table: &mut [u64], told: Told) -> Answer
     ensures { Settled (short_by told) table.old table.new result }
 {
-    let mut a = refused(table, Status::NotEnoughData);
-    a.told = told;
-    a
+    Answer {
+        told,
+        ..refused(table, Status::NotEnoughData)
+    }
 }

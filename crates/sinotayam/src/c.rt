@@ -13,7 +13,6 @@ use crate::answer::Answer;
 use crate::prepared::prepare;
 use crate::texts::text_status;
 use crate::{read, read_prepared};
-use book::fault::Fault;
 use book::judge::fault;
 use wire::settings::Mode;
 
@@ -24,12 +23,11 @@ const COUNTS: u64 = 72057594037927936;
 fn pack(a: Answer) -> u64
     ensures { result ≡ packed (code_of a.status) a.rows }
 {
-    let status = a.status;
-    let rows = a.rows as u64;
-    rows % COUNTS * 256 + ground::wide(status.code())
+    a.rows as u64 % COUNTS * 256 + u64::from(a.status.code())
 }
 
 // The mode by its number: 0 is the crate's, anything else the standard's.
+#[tactic(auto, using(std::proofs::lemmas::Bool::Decides::nat_tests), unfolding(crate::specs::Answer::mode_of))]
 fn mode_of(standard: u8) -> Mode
     ensures { result ≡ mode_of standard }
 {
@@ -58,12 +56,13 @@ pub fn sinotayam_read(
 }
 
 // What is wrong with a book: record * 256 + number, and 0 for a right one.
+#[tactic(auto, using(std::proofs::lemmas::Bool::Decides::nat_tests), unfolding(book::specs::Fault::fault_word))]
 pub fn sinotayam_fault(book: &[u8]) -> u32
     ensures { result ≡ fault_word (fault_of book.now) }
 {
     match fault(book) {
-        Fault::Nothing => 0,
-        Fault::In(k, why) => (k * 256 + ground::wide(why.number()) as usize) as u32,
+        Ok(()) => 0,
+        Err(fault) => (fault.at * 256 + usize::from(fault.number())) as u32,
     }
 }
 
@@ -71,7 +70,7 @@ pub fn sinotayam_fault(book: &[u8]) -> u32
 pub fn sinotayam_check(book: &[u8], root: u16, only_xcdr2: u8) -> u8
     ensures { result ≡ check_of book.now root (not (eqb only_xcdr2 0)) }
 {
-    fit::check(book, root as usize, !(only_xcdr2 == 0))
+    fit::check(book, root as usize, only_xcdr2 != 0)
 }
 
 pub fn sinotayam_prepare(book: &[u8], index: &mut [u32]) -> u8

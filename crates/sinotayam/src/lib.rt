@@ -2,7 +2,7 @@
 // answer, and the answer settles every word of the lent table.
 #![tactic(auto)]
 
-ghost use Rattle.book.specs.Places.{types_by};
+ghost use Rattle.book.specs.Places.{types_in};
 ghost use Rattle.table.specs.Rows.{capacity};
 ghost use Rattle.sinotayam.specs.Answer.{Settled};
 ghost use Rattle.sinotayam.specs.Entry.{message_by, read_of, read_data_of};
@@ -15,26 +15,18 @@ pub mod reading;
 pub mod texts;
 
 use crate::answer::{Answer, Status, refused, short};
-use crate::prepared::{WORDS, count};
+use crate::prepared::{WORDS, held, prepare_own};
 use crate::reading::{HEADER, LONGEST, data_by, identified};
-use book::fault::Fault;
-use book::judge::judge_into;
-use book::types::type_count;
+use book::index::Types;
 use wire::cursor::Told;
 use wire::settings::Mode;
 
-// A message of one of the types at these places.
-fn message_by(
-    book: &[u8],
-    places: &[u32],
-    root: usize,
-    message: &[u8],
-    mode: Mode,
-    table: &mut [u64],
-) -> Answer
-    ensures { Settled (message_by (types_by book.now places.now) root message.now mode (capacity table.old)) table.old table.new result }
+// A message of one of these types. The tests are not shared with `data_by`: but for the root's they are of other numbers, and their order is the document's.
+#[tactic(auto, using(std::proofs::lemmas::Bool::Decides::nat_tests, crate::proofs::Entries::length_types), unfolding(crate::specs::Entry::message_by, crate::specs::Entry::refused_if, crate::specs::Entry::short_if))]
+fn message_by(types: &Types, root: usize, message: &[u8], mode: Mode, table: &mut [u64]) -> Answer
+    ensures { Settled (message_by (types_in types.now) root message.now mode (capacity table.old)) table.old table.new result }
 {
-    if places.len() <= root {
+    if types.index.len() <= root {
         return refused(table, Status::BadRoot);
     }
     if LONGEST < message.len() {
@@ -48,7 +40,7 @@ fn message_by(
         return short(table, told);
     }
     let id = [message[0], message[1]];
-    identified(book, places, root, id, &message[HEADER..], mode, table)
+    identified(types, root, id, &message[HEADER..], mode, table)
 }
 
 // Reads a message with an index that `prepare` made. The book is not judged again: of another index the answer is what the rules say of
@@ -63,12 +55,10 @@ pub fn read_prepared(
 ) -> Answer
     ensures { Settled (read_prepared book.now index.now root message.now mode (capacity table.old)) table.old table.new result }
 {
-    let n = count(index);
-    if n == 0 {
+    let Some(types) = held(book, index) else {
         return refused(table, Status::NotPrepared);
-    }
-    let end = n + 1;
-    message_by(book, &index[1..end], root, message, mode, table)
+    };
+    message_by(&types, root, message, mode, table)
 }
 
 pub fn read_data_prepared(
@@ -82,26 +72,20 @@ pub fn read_data_prepared(
 ) -> Answer
     ensures { Settled (read_data_prepared book.now index.now root id s.now mode (capacity table.old)) table.old table.new result }
 {
-    let n = count(index);
-    if n == 0 {
+    let Some(types) = held(book, index) else {
         return refused(table, Status::NotPrepared);
-    }
-    let end = n + 1;
-    data_by(book, &index[1..end], root, id, s, mode, table)
+    };
+    data_by(&types, root, id, s, mode, table)
 }
 
-// Reads a message: the Rust's deserialize_top_level_type. The index is this call's own, so the judge's places go into it before the
-// verdict.
+// Reads a message: the Rust's deserialize_top_level_type.
 pub fn read(book: &[u8], root: usize, message: &[u8], mode: Mode, table: &mut [u64]) -> Answer
     ensures { Settled (read_of book.now root message.now mode (capacity table.old)) table.old table.new result }
 {
     let mut index = [0u32; WORDS];
-    match judge_into(book, &mut index[1..]) {
-        Fault::In(_, why) => refused(table, Status::BadBook(why)),
-        Fault::Nothing => {
-            index[0] = type_count(book) as u32;
-            read_prepared(book, &index, root, message, mode, table)
-        }
+    match prepare_own(book, &mut index) {
+        Ok(()) => read_prepared(book, &index, root, message, mode, table),
+        Err(fault) => refused(table, Status::BadBook(fault.reason)),
     }
 }
 
@@ -117,11 +101,8 @@ pub fn read_data(
     ensures { Settled (read_data_of book.now root id s.now mode (capacity table.old)) table.old table.new result }
 {
     let mut index = [0u32; WORDS];
-    match judge_into(book, &mut index[1..]) {
-        Fault::In(_, why) => refused(table, Status::BadBook(why)),
-        Fault::Nothing => {
-            index[0] = type_count(book) as u32;
-            read_data_prepared(book, &index, root, id, s, mode, table)
-        }
+    match prepare_own(book, &mut index) {
+        Ok(()) => read_data_prepared(book, &index, root, id, s, mode, table),
+        Err(fault) => refused(table, Status::BadBook(fault.reason)),
     }
 }

@@ -71,9 +71,5 @@ pub fn clear_after(t: &mut [u64], n: usize)
     requires { width * n ≤ length t.old }
     ensures { t.new ≡ cleared_from (width * n) t.old }
 {
-    let mut i = WIDTH * n;
-    while i < t.len() {
-        t[i] = 0;
-        i += 1;
-    }
+    t[WIDTH * n..].fill(0);
 }

@@ -1,4 +1,6 @@
 -- What a string that was read tells: where it stands, and where its units are. Assumes nothing.
+use Rattle.std.specs.Prelude.{Err, Ok}
+use Rattle.wire.specs.declared.cursor.Unread.TheVariants as unread
 use Prim.Native.Nat.{ℕ, zero, suc, ◌+◌, ◌-◌, ◌*◌, ◌%◌, ◌/◌, ◌≤◌, ◌<◌}
 use mathlib.Core.Path.{◌≡◌, refl, sym, ap, ◌∙◌}
 use mathlib.Core.Bool.{Bool, true, false}
@@ -15,15 +17,12 @@ use Rattle.wire.specs.declared.settings.Version.TheVariants.{Xcdr1, Xcdr2}
 use Rattle.wire.specs.declared.settings.Settings.{Settings}
 use Rattle.wire.specs.declared.cursor.Cursor.{Cursor}
 use Rattle.wire.specs.declared.cursor.Shortage.{Shortage}
-use Rattle.wire.specs.declared.cursor.Place.{Place}
-use Rattle.wire.specs.declared.cursor.Place.TheVariants as place
-use Rattle.wire.specs.declared.number.Number.{Number}
-use Rattle.wire.specs.declared.number.Number.TheVariants as number
+use Rattle.wire.specs.Place.{Place}
+use Rattle.wire.specs.Number.{Number}
 use Rattle.wire.proofs.Moves.{seek_at, seek_inv}
 use Rattle.wire.proofs.Numbers.{read_inv, read_exact}
 use Rattle.text.specs.Unicode.{utf8, utf16, rest_good}
-use Rattle.text.specs.Text.{part, text_if, bytes_here, string_type, Units, short, units, unit_then, read_units, on_units, units_here, wide_here, wstring_type}
-use Rattle.text.specs.declared.string.Text.TheVariants as text
+use Rattle.text.specs.Text.{Text, short_text, part, text_if, bytes_here, string_type, Units, short, units, unit_then, read_units, on_units, units_here, wide_here, wstring_type}
 
 -- n pieces of this size from `start`, all in the data; the reading moved past them and kept its origin
 pub record Stands (s : List ℕ) (c : Cursor) (size start n : ℕ) (d : Cursor) : Type 0 where
@@ -32,41 +31,47 @@ pub record Stands (s : List ℕ) (c : Cursor) (size start n : ℕ) (d : Cursor) 
   pub inside : d.pos ≤ length s
   pub kept : d.origin ≡ c.origin
 
-short≢got : (x : Shortage) (start n : ℕ) (d : Cursor) → text.Short x ≡ text.Got start n d → ⊥
-short≢got x start n d e = let z : ◌≡◌ {A = ℕ} 0 1 = cc in omega arith
+pub short≢got : (x : Shortage) (start n : ℕ) (d : Cursor) → ◌≡◌ {A = Text} (Err (unread.Short x)) (Ok (start, n, d)) → ⊥
+short≢got x start n d e = cc
 
-bad≢got : (start n : ℕ) (d : Cursor) → text.Bad ≡ text.Got start n d → ⊥
-bad≢got start n d e = let z : ◌≡◌ {A = ℕ} 0 1 = cc in omega arith
+pub bad≢got : (start n : ℕ) (d : Cursor) → ◌≡◌ {A = Text} (Err unread.Bad) (Ok (start, n, d)) → ⊥
+bad≢got start n d e = cc
+
+-- two texts are the same only where their parts are
+pub text_parts : {a b m n : ℕ} {c d : Cursor} → ◌≡◌ {A = Text} (Ok (a, m, c)) (Ok (b, n, d)) → (a ≡ b) × (m ≡ n) × (c ≡ d)
+text_parts {a} {b} {m} {n} {c} {d} e =
+    let p : ◌≡◌ {A = ℕ × ℕ × Cursor} (a, m, c) (b, n, d) = cc in
+    (ap (λ (x : ℕ × ℕ × Cursor). x.0) p, ap (λ (x : ℕ × ℕ × Cursor). x.1) p, ap (λ (x : ℕ × ℕ × Cursor). x.2) p)
 
 -- a text that came of it is as it was given
-text_if_inv : (good : Bool) (a m start n : ℕ) (c d : Cursor) → text_if good a m c ≡ text.Got start n d → (good ≡ true) × (a ≡ start) × (m ≡ n) × (c ≡ d)
-text_if_inv true a m start n c d e = (refl, (cc), (cc), (cc))
+text_if_inv : (good : Bool) (a m start n : ℕ) (c d : Cursor) → text_if good a m c ≡ Ok (start, n, d) → (good ≡ true) × (a ≡ start) × (m ≡ n) × (c ≡ d)
+text_if_inv true a m start n c d e = let p = text_parts e in (refl, p.0, p.1, p.2)
 text_if_inv false a m start n c d e = absurd (bad≢got start n d e)
 
 -- STRING8: n bytes, well-formed, and the closing byte after them
 module _ (s : List ℕ) (start n : ℕ) (d : Cursor) where
-  closing_inv : (a m : ℕ) (c : Cursor) (r : Place) → seek_to s c 1 ≡ r → after_move text.Short r (λ x. text_if (utf8 (part s a m)) a m x) ≡ text.Got start n d
+  closing_inv : (a m : ℕ) (c : Cursor) (r : Place) → seek_to s c 1 ≡ r → after_move short_text r (λ x. text_if (utf8 (part s a m)) a m x) ≡ Ok (start, n, d)
       → (utf8 (part s a m) ≡ true) × (a ≡ start) × (m ≡ n) × (c.pos + 1 ≤ length s) × (moved c 1 ≡ d)
   unfolding after_move
-  closing_inv a m c (place.Short x) f e = absurd (short≢got x start n d e)
-  closing_inv a m c (place.At x) f e =
+  closing_inv a m c (Err x) f e = absurd (short≢got x start n d e)
+  closing_inv a m c (Ok x) f e =
       let j = text_if_inv (utf8 (part s a m)) a m start n x d e in
       let k = seek_inv s c 1 x f in
       (j.0, j.1, j.2, k.0, k.1 ∙ j.3)
 
-  block_inv : (a m : ℕ) (c : Cursor) (r : Place) → seek_to s c m ≡ r → after_move text.Short r (λ x. after_move text.Short (seek_to s x 1) (λ y. text_if (utf8 (part s a m)) a m y)) ≡ text.Got start n d
+  block_inv : (a m : ℕ) (c : Cursor) (r : Place) → seek_to s c m ≡ r → after_move short_text r (λ x. after_move short_text (seek_to s x 1) (λ y. text_if (utf8 (part s a m)) a m y)) ≡ Ok (start, n, d)
       → (utf8 (part s a m) ≡ true) × (a ≡ start) × (m ≡ n) × (c.pos + m + 1 ≤ length s) × (moved (moved c m) 1 ≡ d)
   unfolding after_move
-  block_inv a m c (place.Short x) f e = absurd (short≢got x start n d e)
-  block_inv a m c (place.At x) f e =
+  block_inv a m c (Err x) f e = absurd (short≢got x start n d e)
+  block_inv a m c (Ok x) f e =
       let k = seek_inv s c m x f in
       let l = closing_inv a m x (seek_to s x 1) refl e in
       (l.0, l.1, l.2, omega (arith, l.3, ap (λ (y : Cursor). y.pos) k.1), ap (λ (y : Cursor). moved y 1) k.1 ∙ l.4)
 
-  length8_inv : (set : Settings) (c : Cursor) (r : Number) → read_number s set c 4 ≡ r → after_number text.Short r (λ m x. bytes_here s x (m - 1)) ≡ text.Got start n d → Stands s c 1 start n d × (utf8 (part s start n) ≡ true)
+  length8_inv : (set : Settings) (c : Cursor) (r : Number) → read_number s set c 4 ≡ r → after_number short_text r (λ m x. bytes_here s x (m - 1)) ≡ Ok (start, n, d) → Stands s c 1 start n d × (utf8 (part s start n) ≡ true)
   unfolding after_number bytes_here
-  length8_inv set c (number.Short x) f e = absurd (short≢got x start n d e)
-  length8_inv set c (number.Got v x) f e =
+  length8_inv set c (Err x) f e = absurd (short≢got x start n d e)
+  length8_inv set c (Ok (v, x)) f e =
       let b = block_inv x.pos (v - 1) x (seek_to s x (v - 1)) refl e in
       let m = read_inv s set c 4 v x f in
       let p : x.pos + (v - 1) + 1 ≡ d.pos = ap (λ (y : Cursor). y.pos) b.4 in
@@ -75,7 +80,7 @@ module _ (s : List ℕ) (start n : ℕ) (d : Cursor) where
         rw (b.1, b.2) at b.0,
       )
 
-  pub string_inv : (set : Settings) (c : Cursor) → string_type s set c ≡ text.Got start n d → Stands s c 1 start n d × (utf8 (part s start n) ≡ true)
+  pub string_inv : (set : Settings) (c : Cursor) → string_type s set c ≡ Ok (start, n, d) → Stands s c 1 start n d × (utf8 (part s start n) ≡ true)
   unfolding string_type
   string_inv set c e = length8_inv set c (read_number s set c 4) refl e
 
@@ -94,8 +99,8 @@ module _ (s : List ℕ) (set : Settings) where
       → ((x : Cursor) (vs : List ℕ) → x.pos ≤ length s → read_units s set n x ≡ units vs d → Room n x d)
       → after_number short r (λ u x. unit_then u (read_units s set n x)) ≡ units us d → Room (suc n) c d
   unfolding after_number
-  room_one n c us d (number.Short x) f rest e = absurd (let z : ◌≡◌ {A = ℕ} 0 1 = cc in omega arith)
-  room_one n c us d (number.Got u x) f rest e =
+  room_one n c us d (Err x) f rest e = absurd (let z : ◌≡◌ {A = ℕ} 0 1 = cc in omega arith)
+  room_one n c us d (Ok (u, x)) f rest e =
       let k = units_inv u (read_units s set n x) us d e in
       let m = read_inv s set c 2 u x f in
       let l = rest x k.0 m.inside k.1 in
@@ -131,7 +136,7 @@ unfolding alignment_of
 own_4 Xcdr1 = refl
 own_4 Xcdr2 = refl
 
-after_length : (s : List ℕ) (set : Settings) (c : Cursor) (n : ℕ) (d : Cursor) → c.origin ≤ c.pos → read_number s set c 4 ≡ number.Got n d → Even d
+after_length : (s : List ℕ) (set : Settings) (c : Cursor) (n : ℕ) (d : Cursor) → c.origin ≤ c.pos → read_number s set c 4 ≡ Ok (n, d) → Even d
 after_length s set c n d h e = after_4 c d h (read_exact s set c 4 n (padding_of c 4) d (rw (own_4 set.version)) e).1
 
 -- the n units from p, two bytes each
@@ -140,7 +145,7 @@ units_at o s zero p = []
 units_at o s (suc n) p = number_at o 0 s p 2 ∷ units_at o s n (p + 2)
 
 -- from an even place the units stand side by side
-read_unit : (s : List ℕ) (set : Settings) (c : Cursor) (u : ℕ) (d : Cursor) → Even c → read_number s set c 2 ≡ number.Got u d → (u ≡ number_at set.order 0 s c.pos 2) × (moved c 2 ≡ d)
+read_unit : (s : List ℕ) (set : Settings) (c : Cursor) (u : ℕ) (d : Cursor) → Even c → read_number s set c 2 ≡ Ok (u, d) → (u ≡ number_at set.order 0 s c.pos 2) × (moved c 2 ≡ d)
 read_unit s set c u d h e =
     let k = read_exact s set c 2 u 0 d (even_2 set.version c h) e in
     let z : c.pos + 0 ≡ c.pos = omega arith in
@@ -161,8 +166,8 @@ module _ (s : List ℕ) (set : Settings) where
       → ((x : Cursor) (vs : List ℕ) → Even x → read_units s set n x ≡ units vs d → Side n x vs d)
       → after_number short r (λ u x. unit_then u (read_units s set n x)) ≡ units us d → Side (suc n) c us d
   unfolding units_at after_number
-  side_one n c us d (number.Short x) h f rest e = absurd (let z : ◌≡◌ {A = ℕ} 0 1 = cc in omega arith)
-  side_one n c us d (number.Got u x) h f rest e =
+  side_one n c us d (Err x) h f rest e = absurd (let z : ◌≡◌ {A = ℕ} 0 1 = cc in omega arith)
+  side_one n c us d (Ok (u, x)) h f rest e =
       let k = units_inv u (read_units s set n x) us d e in
       let m = read_unit s set c u x h f in
       let p : c.pos + 2 ≡ x.pos = ap (λ (y : Cursor). y.pos) m.1 in
@@ -182,34 +187,33 @@ record Accepted (s : List ℕ) (set : Settings) (x : Cursor) (start n : ℕ) (d 
   good : utf16 us ≡ true
 
 module _ (s : List ℕ) (set : Settings) (start n : ℕ) (d : Cursor) where
-  on_units_inv : (m : ℕ) (x : Cursor) (r : Units) → read_units s set m x ≡ r → on_units x.pos m r ≡ text.Got start n d → Accepted s set x start n d
+  on_units_inv : (m : ℕ) (x : Cursor) (r : Units) → read_units s set m x ≡ r → on_units x.pos m r ≡ Ok (start, n, d) → Accepted s set x start n d
   unfolding on_units
   on_units_inv m x (short y) f e = absurd (short≢got y start n d e)
   on_units_inv m x (units us y) f e =
       let j = text_if_inv (utf16 us) x.pos m start n y d e in
       record { starts = j.1; us = us; read = rw (j.2, j.3) at f; good = j.0 }
 
-  long_inv : (empty odd : Bool) (m : ℕ) (x : Cursor) → pick empty (text.Got x.pos 0 x) (pick odd text.Bad (units_here s set x m)) ≡ text.Got start n d → Accepted s set x start n d
+  long_inv : (empty odd : Bool) (m : ℕ) (x : Cursor) → pick empty (Ok (x.pos, 0, x)) (pick odd (Err unread.Bad) (units_here s set x m)) ≡ Ok (start, n, d) → Accepted s set x start n d
   unfolding read_units rest_good units_here
   long_inv true odd m x e =
-      let z : n ≡ 0 = cc in
-      let y : x ≡ d = cc in
-      record { starts = (cc); us = []; read = rw z (ap (λ (c : Cursor). units [] c) y); good = refl }
+      let p = text_parts e in
+      record { starts = p.0; us = []; read = rw (← p.1) (ap (λ (c : Cursor). units [] c) p.2); good = refl }
   long_inv false true m x e = absurd (bad≢got start n d e)
   long_inv false false m x e = on_units_inv m x (read_units s set m x) refl e
 
-  length16_inv : (c : Cursor) (r : Number) → read_number s set c 4 ≡ r → after_number text.Short r (λ m x. wide_here s set x m) ≡ text.Got start n d
-      → (v : ℕ) × (x : Cursor) × (read_number s set c 4 ≡ number.Got v x) × Accepted s set x start n d
+  length16_inv : (c : Cursor) (r : Number) → read_number s set c 4 ≡ r → after_number short_text r (λ m x. wide_here s set x m) ≡ Ok (start, n, d)
+      → (v : ℕ) × (x : Cursor) × (read_number s set c 4 ≡ Ok (v, x)) × Accepted s set x start n d
   unfolding after_number wide_here
-  length16_inv c (number.Short x) f e = absurd (short≢got x start n d e)
-  length16_inv c (number.Got v x) f e = (v, x, f, long_inv (eqb v 0) (eqb (v % 2) 1) (v / 2) x e)
+  length16_inv c (Err x) f e = absurd (short≢got x start n d e)
+  length16_inv c (Ok (v, x)) f e = (v, x, f, long_inv (eqb v 0) (eqb (v % 2) 1) (v / 2) x e)
 
-  accepted : (c : Cursor) → wstring_type s set c ≡ text.Got start n d → (v : ℕ) × (x : Cursor) × (read_number s set c 4 ≡ number.Got v x) × Accepted s set x start n d
+  accepted : (c : Cursor) → wstring_type s set c ≡ Ok (start, n, d) → (v : ℕ) × (x : Cursor) × (read_number s set c 4 ≡ Ok (v, x)) × Accepted s set x start n d
   unfolding wstring_type
   accepted c e = length16_inv c (read_number s set c 4) refl e
 
   -- it stands in the data
-  pub wstring_inv : (c : Cursor) → wstring_type s set c ≡ text.Got start n d → Stands s c 2 start n d
+  pub wstring_inv : (c : Cursor) → wstring_type s set c ≡ Ok (start, n, d) → Stands s c 2 start n d
   wstring_inv c e =
       let w = accepted c e in
       let m = read_inv s set c 4 w.0 w.1 w.2 in
@@ -217,7 +221,7 @@ module _ (s : List ℕ) (set : Settings) (start n : ℕ) (d : Cursor) where
       record { after = omega (arith, m.on, w.3.starts); room = omega (arith, r.0, w.3.starts); inside = r.1; kept = r.2 ∙ m.kept }
 
   -- the units from its start, two bytes each, are well-formed, and the reading stands right behind them
-  pub wstring_units : (c : Cursor) → c.origin ≤ c.pos → wstring_type s set c ≡ text.Got start n d → (utf16 (units_at set.order s n start) ≡ true) × (d.pos ≡ start + 2 * n)
+  pub wstring_units : (c : Cursor) → c.origin ≤ c.pos → wstring_type s set c ≡ Ok (start, n, d) → (utf16 (units_at set.order s n start) ≡ true) × (d.pos ≡ start + 2 * n)
   wstring_units c h e =
       let w = accepted c e in
       let l = units_are s set n w.1 w.3.us d (after_length s set c w.0 w.1 h w.2) w.3.read in
@@ -225,11 +229,11 @@ module _ (s : List ℕ) (set : Settings) (start n : ℕ) (d : Cursor) where
       (rw u at w.3.good, omega (arith, l.1, w.3.starts))
 
 -- a string that is all there and well-formed, n being its length with the closing byte
-pub string_there : (s : List ℕ) (set : Settings) (c : Cursor) (start n : ℕ) → read_number s set c 4 ≡ number.Got n (cursor_at start c.origin) → 0 < n → start + n ≤ length s → utf8 (part s start (n - 1)) ≡ true
-    → string_type s set c ≡ text.Got start (n - 1) (cursor_at (start + n) c.origin)
+pub string_there : (s : List ℕ) (set : Settings) (c : Cursor) (start n : ℕ) → read_number s set c 4 ≡ Ok (n, cursor_at start c.origin) → 0 < n → start + n ≤ length s → utf8 (part s start (n - 1)) ≡ true
+    → string_type s set c ≡ Ok (start, n - 1, cursor_at (start + n) c.origin)
 unfolding string_type bytes_here after_number after_move
 string_there s set c start n e some h good =
-    let a : seek_to s (cursor_at start c.origin) (n - 1) ≡ place.At (cursor_at (start + (n - 1)) c.origin) = sym (seek_at s (cursor_at start c.origin) (n - 1) (omega arith)) in
-    let b : seek_to s (cursor_at (start + (n - 1)) c.origin) 1 ≡ place.At (cursor_at (start + (n - 1) + 1) c.origin) = sym (seek_at s (cursor_at (start + (n - 1)) c.origin) 1 (omega arith)) in
+    let a : seek_to s (cursor_at start c.origin) (n - 1) ≡ (Ok (cursor_at (start + (n - 1)) c.origin)) = sym (seek_at s (cursor_at start c.origin) (n - 1) (omega arith)) in
+    let b : seek_to s (cursor_at (start + (n - 1)) c.origin) 1 ≡ (Ok (cursor_at (start + (n - 1) + 1) c.origin)) = sym (seek_at s (cursor_at (start + (n - 1)) c.origin) 1 (omega arith)) in
     let k : start + (n - 1) + 1 ≡ start + n = omega arith in
     rw (e, a, b, good, k)

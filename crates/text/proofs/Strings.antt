@@ -1,5 +1,7 @@
 -- Laws of the strings: one for each way through a read. Assumes nothing.
-use Prim.Native.Nat.{ℕ, zero, suc, ◌+◌, ◌-◌, ◌≤◌, ◌<◌, ◌%◌, ◌/◌, ◌^◌}
+use Rattle.std.specs.Prelude.{Err, Ok}
+use Rattle.wire.specs.declared.cursor.Unread.TheVariants as unread
+use Prim.Native.Nat.{ℕ, suc, ◌+◌, ◌-◌, ◌≤◌, ◌<◌, ◌%◌, ◌/◌}
 use mathlib.Core.Path.{◌≡◌, refl, sym, ap, ◌∙◌}
 use mathlib.Core.Bool.{Bool, true, false}
 use mathlib.Core.List.{List, [], ◌∷◌}
@@ -12,64 +14,53 @@ use Rattle.wire.specs.Code.Reads.{ReadIs}
 use Rattle.wire.specs.declared.settings.Settings.{Settings}
 use Rattle.wire.specs.declared.cursor.Cursor.{Cursor}
 use Rattle.wire.specs.declared.cursor.Shortage.{Shortage}
-use Rattle.wire.specs.declared.cursor.Place.{Place}
-use Rattle.wire.specs.declared.cursor.Place.TheVariants as place
-use Rattle.wire.specs.declared.number.Number.{Number}
-use Rattle.wire.specs.declared.number.Number.TheVariants as number
+use Rattle.wire.specs.Place.{Place}
+use Rattle.wire.specs.Number.{Number}
 use Rattle.wire.proofs.Moves.{seek_inv}
 use Rattle.text.specs.Unicode.{utf8, rest_good}
 use Rattle.text.specs.Code.Step.{good_from}
-use Rattle.text.specs.Text.{part, text_if, bytes_here, string_type, Units, short, units, unit_then, read_units, on_units, units_here, wide_here, wstring_type}
-use Rattle.text.specs.declared.string.Text.{Text}
-use Rattle.text.specs.declared.string.Text.TheVariants as text
+use Rattle.text.specs.Text.{Text, part, text_if, bytes_here, string_type, Units, short, units, unit_then, read_units, on_units, units_here, wide_here, wstring_type}
 use Rattle.text.specs.declared.utf16.State.{State}
 use Rattle.text.specs.declared.utf16.State.TheVariants as state
 
 -- the block of a STRING8, and its closing byte
 module _ (s : List ℕ) (c : Cursor) (n : ℕ) (b : Place) (is : b ≡ seek_to s c n) where
-  pub block_short : (x : Shortage) → b ≡ place.Short x → text.Short x ≡ bytes_here s c n
+  pub block_short : (x : Shortage) → b ≡ Err x → Err (unread.Short x) ≡ bytes_here s c n
   unfolding bytes_here after_move
   block_short x e = rw (sym is ∙ e)
 
-  module _ (d : Cursor) (e : b ≡ place.At d) where
+  module _ (d : Cursor) (e : b ≡ Ok d) where
     pub block_fits : c.pos + n ≤ length s
     block_fits = (seek_inv s c n d (sym is ∙ e)).0
 
     module _ (l : Place) (last : l ≡ seek_to s d 1) where
-      pub closing_short : (x : Shortage) → l ≡ place.Short x → text.Short x ≡ bytes_here s c n
+      pub closing_short : (x : Shortage) → l ≡ Err x → Err (unread.Short x) ≡ bytes_here s c n
       unfolding bytes_here after_move
       closing_short x f = rw (sym is ∙ e, sym last ∙ f)
 
-      module _ (x : Cursor) (f : l ≡ place.At x) (t : Bool) (told : t ≡ utf8 (part s c.pos n)) where
-        pub well_formed : t ≡ true → text.Got c.pos n x ≡ bytes_here s c n
+      module _ (x : Cursor) (f : l ≡ Ok x) (t : Bool) (told : t ≡ utf8 (part s c.pos n)) where
+        pub well_formed : t ≡ true → Ok (c.pos, n, x) ≡ bytes_here s c n
         unfolding bytes_here after_move
         well_formed g = rw (sym is ∙ e, sym last ∙ f, sym told ∙ g)
 
-        pub ill_formed : t ≡ false → text.Bad ≡ bytes_here s c n
+        pub ill_formed : t ≡ false → Err unread.Bad ≡ bytes_here s c n
         unfolding bytes_here after_move
         ill_formed g = rw (sym is ∙ e, sym last ∙ f, sym told ∙ g)
 
-pub ruleset bytes_laws = (block_short, block_fits, closing_short, well_formed, ill_formed)
-
 -- the length of a STRING8
 module _ (s : List ℕ) (set : Settings) (c : Cursor) (r : Number) (read : ReadIs s set c 4 r) where
-  pub string_short : (x : Shortage) → r ≡ number.Short x → text.Short x ≡ string_type s set c
+  pub string_short : (x : Shortage) → r ≡ Err x → Err (unread.Short x) ≡ string_type s set c
   unfolding string_type after_number
   string_short x e = rw (sym read.is ∙ e)
 
-  module _ (n : ℕ) (d : Cursor) (e : r ≡ number.Got n d) (t : Text) where
+  module _ (n : ℕ) (d : Cursor) (e : r ≡ Ok (n, d)) (t : Text) where
     pub string_got : t ≡ bytes_here s d (n - 1) → t ≡ string_type s set c
     unfolding string_type after_number
     string_got f = rw (sym read.is ∙ e) f
 
-    pub string_empty : n ≡ 0 → t ≡ bytes_here s d 0 → t ≡ string_type s set c
-    string_empty z f = string_got (rw z f)
-
-pub ruleset string_laws = (string_short, string_got, string_empty)
-
 -- what the units to come give in this state
 unfoldable pub resumed : State → ℕ → ℕ → Units → Text
-resumed st start n (short x) = text.Short x
+resumed st start n (short x) = Err (unread.Short x)
 resumed st start n (units us c) = text_if (good_from st us) start n c
 
 module _ (s : List ℕ) (set : Settings) (c : Cursor) (n : ℕ) where
@@ -78,9 +69,9 @@ module _ (s : List ℕ) (set : Settings) (c : Cursor) (n : ℕ) where
   started (short x) = refl
   started (units us d) = refl
 
-  pub units_start : resumed state.Whole c.pos n (read_units s set n c) ≡ units_here s set c n
+  pub units_start : resumed state.Whole c.pos n (read_units s set (n - 0) c) ≡ units_here s set c n
   unfolding units_here
-  units_start = started (read_units s set n c)
+  units_start = let e : n - 0 ≡ n = omega arith in rw e (started (read_units s set n c))
 
 -- a unit that is taken, whatever comes after it
 taken : (st next : State) (start n u : ℕ) (r : Units) → ((us : List ℕ) → good_from next us ≡ good_from st (u ∷ us)) → resumed next start n r ≡ resumed st start n (unit_then u r)
@@ -88,61 +79,53 @@ unfolding resumed unit_then
 taken st next start n u (short x) f = refl
 taken st next start n u (units us d) f = ap (λ (t : Bool). text_if t start n d) (f us)
 
-pub unit_fits : (s : List ℕ) (set : Settings) (c : Cursor) (r : Number) → ReadIs s set c 2 r → (u : ℕ) (d : Cursor) → r ≡ number.Got u d → u < 2 ^ 16
-unit_fits s set c r read u d e = rw e at read.small
-
 -- one turn of the loop over the units, and its end; `whole` is what all of them give
-module _ (s : List ℕ) (set : Settings) (c : Cursor) (st : State) (start n : ℕ) (whole : Text) where
-  module _ (r : Number) (read : ReadIs s set c 2 r) where
-    pub units_short : (left : ℕ) (x : Shortage) → 0 < left → r ≡ number.Short x → resumed st start n (read_units s set left c) ≡ whole → text.Short x ≡ whole
-    unfolding read_units resumed after_number
-    units_short zero x h e inv = absurd (omega arith)
-    units_short (suc left) x h e inv = rw (sym read.is ∙ e) at inv
+module _ (s : List ℕ) (set : Settings) (c : Cursor) (st : State) (start n i : ℕ) (whole : Text) (inv : resumed st start n (read_units s set (n - i) c) ≡ whole) where
+  module _ (h : i < n) (r : Number) (read : ReadIs s set c 2 r) where
+    unit_first : resumed st start n (after_number short r (λ u d. unit_then u (read_units s set (n - (i + 1)) d))) ≡ whole
+    unfolding read_units
+    unit_first = let e : n - i ≡ suc (n - (i + 1)) = omega arith in rw read.is (rw e at inv)
 
-    pub units_turn : (left u : ℕ) (d : Cursor) (next : State) → 0 < left → r ≡ number.Got u d → ((us : List ℕ) → good_from next us ≡ good_from st (u ∷ us))
-        → resumed st start n (read_units s set left c) ≡ whole → resumed next start n (read_units s set (left - 1) d) ≡ whole
-    unfolding read_units after_number
-    units_turn zero u d next h e f inv = absurd (omega arith)
-    units_turn (suc left) u d next h e f inv =
-        let k : suc left - 1 ≡ left = omega arith in
-        rw k (taken st next start n u (read_units s set left d) f ∙ (rw (sym read.is ∙ e) at inv))
+    pub units_short : (x : Shortage) → r ≡ Err x → Err (unread.Short x) ≡ whole
+    unfolding resumed after_number
+    units_short x e = rw e at unit_first
 
-  module _ (left : ℕ) (h : left ≤ 0) (inv : resumed st start n (read_units s set left c) ≡ whole) where
+    pub units_turn : (u : ℕ) (d : Cursor) → r ≡ Ok (u, d) → (next : State) → ((us : List ℕ) → good_from next us ≡ good_from st (u ∷ us)) → resumed next start n (read_units s set (n - (i + 1)) d) ≡ whole
+    unfolding after_number
+    units_turn u d e next f = taken st next start n u (read_units s set (n - (i + 1)) d) f ∙ (rw e at unit_first)
+
+  module _ (h : n ≤ i) where
     none_left : resumed st start n (units [] c) ≡ whole
     unfolding read_units
-    none_left = let z : left ≡ 0 = omega arith in rw z at inv
+    none_left = let z : n - i ≡ 0 = omega arith in rw z at inv
 
-    pub units_whole : st ≡ state.Whole → text.Got start n c ≡ whole
+    pub units_whole : st ≡ state.Whole → Ok (start, n, c) ≡ whole
     unfolding resumed rest_good
     units_whole e = rw e at none_left
 
-    pub units_half : st ≡ state.Half → text.Bad ≡ whole
+    pub units_half : st ≡ state.Half → Err unread.Bad ≡ whole
     unfolding resumed rest_good
     units_half e = rw e at none_left
 
-    pub units_bad : st ≡ state.Bad → text.Bad ≡ whole
+    pub units_bad : st ≡ state.Bad → Err unread.Bad ≡ whole
     unfolding resumed rest_good
     units_bad e = rw e at none_left
 
-pub ruleset units_laws = (units_start, units_short, unit_fits, units_turn, units_whole, units_half, units_bad)
-
 -- the length of a STRING16
 module _ (s : List ℕ) (set : Settings) (c : Cursor) (r : Number) (read : ReadIs s set c 4 r) where
-  pub wstring_short : (x : Shortage) → r ≡ number.Short x → text.Short x ≡ wstring_type s set c
+  pub wstring_short : (x : Shortage) → r ≡ Err x → Err (unread.Short x) ≡ wstring_type s set c
   unfolding wstring_type after_number wide_here
   wstring_short x e = rw (sym read.is ∙ e)
 
-  module _ (n : ℕ) (d : Cursor) (e : r ≡ number.Got n d) where
-    pub wstring_empty : n ≡ 0 → text.Got d.pos 0 d ≡ wstring_type s set c
+  module _ (n : ℕ) (d : Cursor) (e : r ≡ Ok (n, d)) where
+    pub wstring_empty : n ≡ 0 → Ok (d.pos, 0, d) ≡ wstring_type s set c
     unfolding wstring_type after_number wide_here
     wstring_empty z = rw (sym read.is ∙ e, z)
 
-    pub wstring_odd : (n ≡ 0 → ⊥) → n % 2 ≡ 1 → text.Bad ≡ wstring_type s set c
+    pub wstring_odd : (n ≡ 0 → ⊥) → n % 2 ≡ 1 → Err unread.Bad ≡ wstring_type s set c
     unfolding wstring_type after_number wide_here
     wstring_odd z o = rw (sym read.is ∙ e, ne_eqb n 0 z, o)
 
     pub wstring_units : (t : Text) → (n ≡ 0 → ⊥) → (n % 2 ≡ 1 → ⊥) → t ≡ units_here s set d (n / 2) → t ≡ wstring_type s set c
     unfolding wstring_type after_number wide_here
     wstring_units t z o f = rw (sym read.is ∙ e, ne_eqb n 0 z, ne_eqb (n % 2) 1 o) f
-
-pub ruleset wstring_laws = (wstring_short, wstring_empty, wstring_odd, wstring_units)

@@ -8,6 +8,7 @@ use native.Mathlib.Numerals.{add-one}
 use lib.Dec.{T, eqb, eqb→eq}
 use lib.ListN.{length, get_or, drop}
 use lib.Seq.{drop-cons}
+use Rattle.std.specs.Prelude.{Option, Some, None}
 use Rattle.ground.specs.Choice.{both, Range, ◌‥◌}
 use Rattle.ground.proofs.Tests.{both_left, both_right}
 use Rattle.ground.proofs.Between.{passes, between}
@@ -55,7 +56,7 @@ row : (e : Follow) (lo n x : ℕ) → T (passes (λ y. same e (follow table37 y)
 row e lo n x t h k = same_is e (follow table37 x) (between (λ y. same e (follow table37 y)) n lo t x h k)
 
 -- bytes that were held to what follows a first byte, where this is what follows each one from lo to hi: a line of the table, or a gap between two
-pub line : (lo hi : ℕ) {s : List ℕ} {at n : ℕ} {f : Follow} → Row s at f n → T (passes (λ y. same f (follow table37 y)) lo (suc hi - lo)) → lo ≤ get_or s at 0 → get_or s at 0 ≤ hi
+pub line : (lo hi : ℕ) {s : List ℕ} {at : ℕ} {n : Option ℕ} {f : Follow} → Row s at f n → T (passes (λ y. same f (follow table37 y)) lo (suc hi - lo)) → lo ≤ get_or s at 0 → get_or s at 0 ≤ hi
     → n ≡ row_length (drop at s)
 unfolding row_length
 line lo hi {s} {at} {n} {f} r t a b =
@@ -63,11 +64,11 @@ line lo hi {s} {at} {n} {f} r t a b =
 
 -- a line of one byte, and no line
 module _ (s : List ℕ) (at : ℕ) (h : at < length s) where
-  pub one_byte : Row s at (ranges []) 1
+  pub one_byte : Row s at (ranges []) (Some 1)
   unfolding on_row begins
   one_byte = record { begun = h; counted = refl }
 
-  pub no_line : Row s at nothing 0
+  pub no_line : Row s at nothing None
   unfolding on_row
   no_line = record { begun = h; counted = refl }
 

@@ -37,3 +37,5 @@ module _ (u : ℕ) (us : List ℕ) where
   pub over : 0xE000 ≤ u → false ≡ good_from Half (u ∷ us)
   unfolding rest_good
   over h = rw (above 0xDC00 0xDFFF u (omega arith))
+
+pub ruleset unit_laws = (plain, high, lone, other, low, under, over)

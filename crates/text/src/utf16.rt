@@ -11,6 +11,7 @@ pub enum State {
 }
 
 // A unit that begins a character.
+#[tactic(auto, using(crate::proofs::Units::unit_laws))]
 fn first_unit(u: u16) -> State
     ensures { (us : List ℕ) → good_from result us ≡ good_from State.Whole (u ∷ us) }
 {
@@ -23,6 +24,7 @@ fn first_unit(u: u16) -> State
 }
 
 // The second unit of a pair.
+#[tactic(auto, using(crate::proofs::Units::unit_laws))]
 fn second_unit(u: u16) -> State
     ensures { (us : List ℕ) → good_from result us ≡ good_from State.Half (u ∷ us) }
 {

@@ -1,6 +1,5 @@
 pub mod Scalars
 pub mod Lists
-pub mod Counts
 pub mod Quickly
 pub mod Runs
 pub mod Placing

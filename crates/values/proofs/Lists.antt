@@ -1,4 +1,5 @@
 -- Laws of lists of values that open nothing: the loop's start, turn and ends, and the list around it. Assumes nothing.
+use Rattle.std.specs.Prelude.{Err, Ok}
 use Prim.Native.Nat.{ℕ, zero, suc, ◌+◌, ◌-◌, ◌^◌, ◌≤◌, ◌<◌}
 use mathlib.Core.Path.{◌≡◌, refl, sym, ap, ◌∙◌}
 use mathlib.Core.Bool.{Bool, true, false, ◌||◌, or-false}
@@ -14,22 +15,19 @@ use Rattle.ground.specs.Choice.{pick, among}
 use Rattle.ground.proofs.Tests.{apart, inside}
 use Rattle.wire.specs.declared.cursor.Cursor.{Cursor}
 use Rattle.wire.specs.declared.cursor.Shortage.{Shortage}
-use Rattle.wire.specs.declared.cursor.Place.{Place}
-use Rattle.wire.specs.declared.cursor.Place.TheVariants as place
 use Rattle.wire.specs.declared.settings.Settings.{Settings}
-use Rattle.wire.specs.Place.{cursor_at, seek_to}
+use Rattle.wire.specs.Place.{Place, cursor_at, seek_to}
 use Rattle.wire.proofs.Moves.{seek_at}
 use Rattle.kinds.specs.Kinds.{stored_of, is_primitive}
 use Rattle.kinds.proofs.Table.{sequence_stored}
-use Rattle.table.specs.declared.out.Refusal.{Refusal}
 use Rattle.table.specs.declared.out.Refusal.TheVariants.{NoRoom}
-use Rattle.table.specs.declared.out.Out.{Out}
-use Rattle.table.specs.declared.out.Out.TheVariants.{Read, Short, Refused}
+use Rattle.table.specs.declared.out.Trouble.{Trouble}
+use Rattle.table.specs.declared.out.Trouble.TheVariants as trouble
 use Rattle.table.specs.declared.rows.Row.{Row}
 use Rattle.table.specs.Rows.{row, row_at, room, no_room}
 use Rattle.table.specs.Code.Rows.{put_row, Filled}
 use Rattle.table.specs.Outcome.{Outcome, read, prepend, and_then}
-use Rattle.table.specs.Code.Outcome.{Done}
+use Rattle.table.specs.Code.Outcome.{Out, Done}
 use Rattle.table.proofs.Filling.{filled_fits, filled_none, filled_one, filled_first, filled_row, full_fits, room_used}
 use Rattle.table.proofs.Outcomes.{is_read, is_short, is_refused, is_same, is_after, no_room_law, some_room, was_read, was_short, was_refused, then_read, then_short, then_refused, Sofar, sofar_start, sofar_more, sofar_read, sofar_short, sofar_refused}
 use Rattle.values.specs.Scalar.{scalar_of}
@@ -59,7 +57,7 @@ module _ (s : List ℕ) (set : Settings) (kind count : ℕ) where
     pub quick_else : r ≤ 0 → (v : List ℕ) (x : Out) → Done (elements_from s set kind count 0 c (room u n)) n u v x → Done (elements_from s set kind count 0 c (room t n)) n t v x
     quick_else h v x d = rw (quick_none _ count n c.origin t u r h q) at d
 
-    pub quick_all : 0 < r → (d : Cursor) → d ≡ cursor_at r c.origin → Done (elements_from s set kind count 0 c (room t n)) n t u (Read d (n + count))
+    pub quick_all : 0 < r → (d : Cursor) → d ≡ cursor_at r c.origin → Done (elements_from s set kind count 0 c (room t n)) n t u (Ok (d, n + count))
     quick_all h d e = rw e (quick_done count r h q)
 
     pub quick_count : 0 < r → length t < 2 ^ 64 → n < 2 ^ 64 → Fits w64 (n + count)
@@ -67,22 +65,20 @@ module _ (s : List ℕ) (set : Settings) (kind count : ℕ) where
 
   module _ (whole : Outcome) (n : ℕ) (t u : List ℕ) (i : ℕ) (c : Cursor) (m : ℕ) (inv : ElementsSofar whole n t u i c m) where
     module _ (l : i < count) (v : List ℕ) (r : Out) (h : Done (scalar_of s set kind i c (room u m)) m u v r) where
-      pub elements_turn : (d : Cursor) (k : ℕ) → r ≡ Read d k → ElementsSofar whole n t v (i + 1) d k
+      pub elements_turn : (d : Cursor) (k : ℕ) → r ≡ Ok (d, k) → ElementsSofar whole n t v (i + 1) d k
       elements_turn d k q =
           let w = was_read h q in
           let z : room u m - length w.new ≡ room v k = room_used u v m (length w.new) w.filled.long ∙ ap (room v) (sym w.count) in
           sofar_more inv (more i c (room u m) l ∙ then_read _ w.is ∙ ap (λ (x : ℕ). prepend w.new (elements_from s set kind (count - (i + 1)) (i + 1) d x)) z) w.count w.filled
 
-      pub elements_short : (x : Shortage) → r ≡ Short x → Done whole n t v (Short x)
-      elements_short x q = let w = was_short h q in sofar_short inv (more i c (room u m) l ∙ then_short _ w.is) w.filled
-
-      pub elements_refused : (k : Refusal) → r ≡ Refused k → Done whole n t v (Refused k)
-      elements_refused k q = let w = was_refused h q in sofar_refused inv (more i c (room u m) l ∙ then_refused _ w.is) w.filled
+      pub elements_none : (x : Trouble) → r ≡ Err x → Done whole n t v (Err x)
+      elements_none (trouble.Short x) q = let w = was_short h q in sofar_short inv (more i c (room u m) l ∙ then_short _ w.is) w.filled
+      elements_none (trouble.Refused k) q = let w = was_refused h q in sofar_refused inv (more i c (room u m) l ∙ then_refused _ w.is) w.filled
 
     -- an element that the quick way took, or left alone
     module _ (v : List ℕ) (r : ℕ) (q : Quickly (scalar_of s set kind i c (room u m)) 1 m c.origin u v r) where
       pub elements_quick : i < count → 0 < r → (d : Cursor) → d ≡ cursor_at r c.origin → ElementsSofar whole n t v (i + 1) d (m + 1)
-      elements_quick l h d e = rw e (elements_turn l v (Read (cursor_at r c.origin) (m + 1)) (quick_done 1 r h q) (cursor_at r c.origin) (m + 1) refl)
+      elements_quick l h d e = rw e (elements_turn l v (Ok (cursor_at r c.origin, m + 1)) (quick_done 1 r h q) (cursor_at r c.origin) (m + 1) refl)
 
       pub elements_left : r ≤ 0 → ElementsSofar whole n t v i c m
       elements_left h = rw (quick_none _ 1 m c.origin u v r h q) inv
@@ -90,12 +86,12 @@ module _ (s : List ℕ) (set : Settings) (kind count : ℕ) where
       pub elements_next : 0 < r → length t < 2 ^ 64 → Fits w64 (m + 1)
       elements_next h k = quick_next _ _ _ _ _ r h q (rw (← inv.filled.long) at k)
 
-    pub elements_end : count ≤ i → Done whole n t u (Read c m)
+    pub elements_end : count ≤ i → Done whole n t u (Ok (c, m))
     elements_end h = sofar_read inv (none i c (room u m) h) (filled_none u m)
 
   -- the list's row, and then its elements
   module _ (id : ℕ) (c : Cursor) (t : List ℕ) (n : ℕ) (f : Bool) (is : f ≡ no_room t n) where
-    pub list_full : f ≡ true → Done (list_of s set kind id count c (room t n)) n t t (Refused NoRoom)
+    pub list_full : f ≡ true → Done (list_of s set kind id count c (room t n)) n t t (Err (trouble.Refused NoRoom))
     unfolding list_of
     list_full e = is_refused (no_room_law t n _ f is e) (filled_none t n)
 
@@ -109,22 +105,9 @@ module _ (s : List ℕ) (set : Settings) (kind count : ℕ) where
 
   -- a block of bytes before it, if one is asked for
   module _ (bytes : Bool) (id : ℕ) (c : Cursor) (t : List ℕ) (n : ℕ) (p : Place) (is : p ≡ block_at bytes s c count) where
-    pub plain_short : (x : Shortage) → p ≡ place.Short x → Done (plain_of bytes s set kind id count c (room t n)) n t t (Short x)
+    pub plain_short : (x : Shortage) → p ≡ Err x → Done (plain_of bytes s set kind id count c (room t n)) n t t (Err (trouble.Short x))
     unfolding plain_of on_block
     plain_short x e = is_short (rw (sym is ∙ e)) (filled_none t n)
-
-    pub plain_at : (d : Cursor) → p ≡ place.At d → (u : List ℕ) (r : Out) → Done (list_of s set kind id count c (room t n)) n t u r → Done (plain_of bytes s set kind id count c (room t n)) n t u r
-    unfolding plain_of on_block
-    plain_at d e u r h = is_same (rw (sym is ∙ e)) h
-
-module _ (bytes : Bool) (s : List ℕ) (c : Cursor) (count : ℕ) (r : Place) where
-  pub block_asked : bytes ≡ true → r ≡ seek_to s c count → r ≡ block_at bytes s c count
-  unfolding block_at
-  block_asked e h = rw e h
-
-  pub block_unasked : bytes ≡ false → r ≡ place.At c → r ≡ block_at bytes s c count
-  unfolding block_at
-  block_unasked e h = rw e h
 
 -- bytes are primitives
 bytes_primitive : (kind : ℕ) → is_primitive kind ≡ false → among (2 ∷ 13 ∷ []) kind ≡ false

@@ -1,7 +1,8 @@
 -- Laws of the quick way: what it takes is what `scalar_of` says. Assumes nothing.
+use Rattle.std.specs.Prelude.{Ok}
 use Prim.Native.Nat.{ℕ, zero, suc, ◌+◌, ◌-◌, ◌*◌, ◌≤◌, ◌<◌, ◌^◌}
-use mathlib.Core.Path.{◌≡◌, refl, sym, ap, ◌∙◌}
-use mathlib.Core.Bool.{Bool, true, false, not, ◌&&◌, ◌||◌}
+use mathlib.Core.Path.{◌≡◌, refl, sym, ◌∙◌}
+use mathlib.Core.Bool.{Bool, true, false, not, ◌||◌}
 use mathlib.Core.List.{List}
 use native.Mathlib.Omega.{arith}
 use mir.Syntax.{w64}
@@ -11,22 +12,18 @@ use lib.Dec.{T, eqb, leb, leb→le}
 use borrow.Author.Tests.{ne_eqb}
 use Rattle.ground.specs.Choice.{both, ◌‥◌, within}
 use Rattle.ground.proofs.Between.{between}
-use Rattle.ground.proofs.Tests.{and_both, both_left, both_right, inside}
+use Rattle.ground.proofs.Tests.{both_left, both_right, inside}
 use Rattle.wire.specs.declared.cursor.Cursor.{Cursor}
 use Rattle.wire.specs.declared.settings.Settings.{Settings}
-use Rattle.wire.specs.declared.number.Number.TheVariants as number
-use Rattle.wire.specs.declared.number.Boolean.TheVariants as boolean
 use Rattle.wire.specs.Place.{cursor_at, alignment_of, padding_of}
 use Rattle.wire.specs.Number.{number_at, read_number, read_boolean, on_byte, boolean_in}
 use Rattle.wire.proofs.Numbers.{read_there}
-use Rattle.text.specs.declared.string.Text.TheVariants as text
 use Rattle.text.specs.Unicode.{utf8}
 use Rattle.text.specs.Text.{part, string_type}
 use Rattle.text.proofs.Places.{string_there}
 use Rattle.kinds.specs.Kinds.{align_of, stored_of, is_primitive}
 use Rattle.kinds.proofs.Table.{primitive_align}
 use Rattle.table.specs.declared.rows.Row.{Row}
-use Rattle.table.specs.declared.out.Out.TheVariants.{Read}
 use Rattle.table.specs.Rows.{row, width, room, no_room}
 use Rattle.table.specs.Code.Rows.{put_row}
 use Rattle.table.specs.Outcome.{Outcome}
@@ -39,12 +36,12 @@ use Rattle.values.proofs.Scalars.{row_given}
 
 -- what an answer of the quick way tells
 module _ {o : Outcome} (k : ℕ) {n origin : ℕ} {a b : List ℕ} where
-  pub quick_is : (r : ℕ) → 0 < r → Done o n a b (Read (cursor_at r origin) (n + k)) → Quickly o k n origin a b r
+  pub quick_is : (r : ℕ) → 0 < r → Done o n a b (Ok (cursor_at r origin, n + k)) → Quickly o k n origin a b r
   unfolding Quickly
   quick_is zero h d = absurd (omega arith)
   quick_is (suc p) h d = d
 
-  pub quick_done : (r : ℕ) → 0 < r → Quickly o k n origin a b r → Done o n a b (Read (cursor_at r origin) (n + k))
+  pub quick_done : (r : ℕ) → 0 < r → Quickly o k n origin a b r → Done o n a b (Ok (cursor_at r origin, n + k))
   unfolding Quickly
   quick_done zero h q = absurd (omega arith)
   quick_done (suc p) h q = q
@@ -93,11 +90,6 @@ is_free t n f is e = sym is ∙ e
 pub read_begins : (q w : ℕ) → place_before w (q + w) ≡ q
 unfolding place_before
 read_begins q w = omega arith
-
--- the code's test
-pub is_number_law : (kind : ℕ) → ((leb 2 kind && leb kind 14) && not (eqb kind 11)) ≡ is_number kind
-unfolding is_number
-is_number_law kind = and_both (leb 2 kind && leb kind 14) (not (eqb kind 11)) ∙ ap (λ (x : Bool). both x (not (eqb kind 11))) (and_both (leb 2 kind) (leb kind 14))
 
 pub number_so : (kind : ℕ) (b : Bool) → b ≡ is_number kind → b ≡ true → is_number kind ≡ true
 number_so kind b is h = sym is ∙ h
@@ -149,20 +141,14 @@ module _ (kind : ℕ) (num : is_number kind ≡ true) where
         → Quickly (scalar_of s set kind id c (room t n)) 1 n c.origin t u (q + w)
     unfolding on_number
     quick_number starts h is x word y stored free u put =
-        let z : read_number s set c w ≡ number.Got v (cursor_at (q + w) c.origin) = read_there s set c w q v (starts h) h is in
-        let k : read_number s set c (align_of kind) ≡ number.Got v (cursor_at (q + w) c.origin) = rw (← wide) z in
+        let z : read_number s set c w ≡ (Ok (v, cursor_at (q + w) c.origin)) = read_there s set c w q v (starts h) h is in
+        let k : read_number s set c (align_of kind) ≡ (Ok (v, cursor_at (q + w) c.origin)) = rw (← wide) z in
         let p : u ≡ put_row t n (row (stored_of kind) id (word_of kind v) 0 q) = rw (stored, word) at put in
         let b : place_before (align_of kind) (q + w) ≡ q = rw (← wide) (read_begins q w) in
         quick_row (scalar_of s set kind id c (room t n)) t n c.origin (q + w) (row (stored_of kind) id (word_of kind v) 0 q) (number_is s set id c (room t n) ∙ rw (k, b)) (omega (arith, wide, number_some)) free u p
 
--- what the code asks for a number whose kind an arm knows
-module _ (kind k : ℕ) (e : kind ≡ k) where
-  pub number_asks : (y w : ℕ) → is_number k ≡ true → y ≡ stored_of k → w ≡ align_of k → (t : List ℕ) (n : ℕ) (f : Bool) → f ≡ no_room t n → f ≡ false
-      → (no_room t n ≡ false) × (is_number kind ≡ true) × (y ≡ stored_of kind) × (w ≡ align_of kind)
-  number_asks y w num stored wide t n f is free = (is_free t n f is free, rw e num, rw e stored, rw e wide)
-
 -- a boolean's byte, and its row
-boolean_of : (v : ℕ) → v ≤ 1 → (c : Cursor) → (b : Bool) × ((boolean_in v c ≡ boolean.Got b c) × (v ≡ bool_word b))
+boolean_of : (v : ℕ) → v ≤ 1 → (c : Cursor) → (b : Bool) × ((boolean_in v c ≡ Ok (b, c)) × (v ≡ bool_word b))
 unfolding boolean_in bool_word
 boolean_of zero h c = (false, (refl, refl))
 boolean_of (suc zero) h c = (true, (refl, refl))
@@ -173,7 +159,7 @@ module _ (s : List ℕ) (set : Settings) (id : ℕ) (c : Cursor) (t : List ℕ) 
       → no_room t n ≡ false → (u : List ℕ) → u ≡ put_row t n (row 1 id v 0 q) → Quickly (scalar_of s set 1 id c (room t n)) 1 n c.origin t u (q + 1)
   unfolding scalar_of on_boolean read_boolean on_byte
   quick_boolean q v starts h is small free u put =
-      let z : read_number s set c 1 ≡ number.Got v (cursor_at (q + 1) c.origin) = read_there s set c 1 q v (starts h) h is in
+      let z : read_number s set c 1 ≡ (Ok (v, cursor_at (q + 1) c.origin)) = read_there s set c 1 q v (starts h) h is in
       let b = boolean_of v small (cursor_at (q + 1) c.origin) in
       let e : on_boolean id (room t n) (read_boolean s set c) ≡ rowed (room t n) (cursor_at (q + 1) c.origin) (row 1 id v 0 q) = rw (z, b.1.0, ← b.1.1, read_begins q 1) in
       quick_row (scalar_of s set 1 id c (room t n)) t n c.origin (q + 1) (row 1 id v 0 q) e (omega arith) free u put
@@ -184,8 +170,8 @@ module _ (s : List ℕ) (set : Settings) (id : ℕ) (c : Cursor) (t : List ℕ) 
       → Quickly (scalar_of s set 16 id c (room t n)) 1 n c.origin t u (start + v)
   unfolding scalar_of on_text
   quick_text q v start starts h is e some fits good g k' free u put =
-      let z : read_number s set c 4 ≡ number.Got v (cursor_at start c.origin) = rw e (read_there s set c 4 q v (starts h) h is) in
-      let k : string_type s set c ≡ text.Got start (v - 1) (cursor_at (start + v) c.origin) = string_there s set c start v z some fits (sym g ∙ k') in
+      let z : read_number s set c 4 ≡ (Ok (v, cursor_at start c.origin)) = rw e (read_there s set c 4 q v (starts h) h is) in
+      let k : string_type s set c ≡ (Ok (start, v - 1, cursor_at (start + v) c.origin)) = string_there s set c start v z some fits (sym g ∙ k') in
       let b : place_before 4 start ≡ q = rw e (read_begins q 4) in
       quick_row (scalar_of s set 16 id c (room t n)) t n c.origin (start + v) (row 16 id start (v - 1) q) (rw (k, b)) (omega arith) free u put
 
@@ -211,3 +197,5 @@ module _ (kind k : ℕ) (e : kind ≡ k) where
 
 pub none_taken : (r kind : ℕ) → r ≤ 0 → 0 < r → is_taken kind ≡ true
 none_taken r kind h k = absurd (omega arith)
+
+pub ruleset quick_laws = (is_free, free_fits, wide_some, wide_most, past_fits, number_so, quick_number, quick_boolean, quick_kind, quick_not, none_taken, taken_known, taken_number)

@@ -1,10 +1,12 @@
 -- Laws of a list of numbers that is there whole: its rows, one turn of the loop after the other, and that the rules say the same of it.
 -- Assumes nothing.
+use Rattle.std.specs.Prelude.{Ok}
 use Prim.Native.Nat.{ℕ, zero, suc, ◌+◌, ◌-◌, ◌*◌, ◌^◌, ◌%◌, ◌≤◌, ◌<◌}
 use mathlib.Core.Path.{◌≡◌, refl, sym, ap, ◌∙◌}
 use mathlib.Core.Bool.{Bool, true, false, not, ◌||◌}
 use mathlib.Core.List.{List, [], ◌∷◌, ◌++◌, append-nil, append_assoc}
-use native.Mathlib.Nat.{add-zero, suc-mul, zero-mul, sub-zero, mul-le-mul_left, mul-pos}
+use native.Mathlib.Numerals.{add-one}
+use native.Mathlib.Nat.{mul-le-mul_right, add-zero, suc-mul, zero-mul, sub-zero, mul-le-mul_left, mul-pos}
 use native.Mathlib.Omega.{arith}
 use mir.Syntax.{w64}
 use mir.Val.{Fits}
@@ -15,14 +17,11 @@ use Rattle.ground.specs.Choice.{both}
 use Rattle.ground.proofs.Tests.{both_left, both_right, neither_first, neither_second}
 use Rattle.ground.proofs.Between.{between}
 use Rattle.wire.specs.declared.cursor.Cursor.{Cursor}
-use Rattle.wire.specs.declared.cursor.Place.{Place}
-use Rattle.wire.specs.declared.cursor.Place.TheVariants as place
-use Rattle.wire.specs.declared.number.Number.TheVariants as number
 use Rattle.wire.specs.declared.settings.Settings.{Settings}
 use Rattle.wire.specs.declared.settings.Version.{Version}
 use Rattle.wire.specs.declared.settings.Version.TheVariants.{Xcdr1, Xcdr2}
 use Rattle.wire.specs.declared.settings.ByteOrder.{ByteOrder}
-use Rattle.wire.specs.Place.{cursor_at, moved, alignment_of, padding_of, align_to}
+use Rattle.wire.specs.Place.{Place, cursor_at, moved, alignment_of, padding_of, align_to}
 use Rattle.wire.specs.Number.{number_at, read_number}
 use Rattle.wire.proofs.Moves.{still_aligned, padded_aligned, seek_inv, align_inv}
 use Rattle.wire.proofs.Numbers.{read_past, read_aligned}
@@ -38,12 +37,6 @@ use Rattle.values.specs.List.{elements_from}
 use Rattle.values.specs.Code.Quick.{is_number, Quickly, rows_from, WhereThere}
 use Rattle.values.proofs.Quickly.{quick_is, read_begins, number_is, wide_some, wide_most, ranged}
 
--- what is left of a list, one number on
-on_more : (count i w p l : ℕ) → i < count → p + (count - i) * w ≤ l → p + w + (count - (i + 1)) * w ≤ l
-on_more count i w p l h k =
-    let e : count - i ≡ suc (count - (i + 1)) = omega arith in
-    omega (arith, rw (e, suc-mul (count - (i + 1)) w) at k)
-
 pub rows_count : (s : List ℕ) (o : ByteOrder) (kind left i p : ℕ) → length (rows_from s o kind left i p) ≡ left
 unfolding rows_from
 rows_count s o kind zero i p = refl
@@ -53,47 +46,51 @@ abbrev number_row : List ℕ → ByteOrder → ℕ → ℕ → ℕ → Row
 number_row s o kind i p = row (stored_of kind) i (word_of kind (number_at o 0 s p (align_of kind))) 0 p
 
 module _ (s : List ℕ) (o : ByteOrder) (kind w count pos n : ℕ) (t₀ : List ℕ) where
-  pub record FillSofar (t : List ℕ) (i p m : ℕ) : Type 0 where
+  pub record FillSofar (t : List ℕ) (i : ℕ) : Type 0 where
     pub new : List Row
-    pub same : rows_from s o kind count 0 pos ≡ new ++ rows_from s o kind (count - i) i p
+    pub same : rows_from s o kind count 0 pos ≡ new ++ rows_from s o kind (count - i) i (pos + i * w)
     pub some : length new ≡ i
-    pub upto : i ≤ count
-    pub next : m ≡ n + i
     pub filled : Filled t₀ t n new
-    pub inside : p + (count - i) * w ≤ length s
     pub room : n + count ≤ capacity t
 
-  pub fill_start : pos + count * w ≤ length s → n + count ≤ capacity t₀ → FillSofar t₀ 0 pos n
-  fill_start h k =
-      record { new = []; same = rw sub-zero; some = refl; upto = omega arith; next = omega arith; filled = filled_none t₀ n; inside = rw sub-zero h; room = k }
+  pub fill_start : n + count ≤ capacity t₀ → FillSofar t₀ 0
+  fill_start k =
+      let e : pos + 0 * w ≡ pos = omega (arith, zero-mul w) in
+      record { new = []; same = rw (sub-zero, e); some = refl; filled = filled_none t₀ n; room = k }
 
-  module _ (t : List ℕ) (i p m : ℕ) (inv : FillSofar t i p m) where
-    pub turn_inside : i < count → p + w ≤ length s
-    turn_inside h = omega (arith, on_more count i w p (length s) h inv.inside)
+  module _ (i : ℕ) (h : i < count) (k : pos + count * w ≤ length s) where
+    pub turn_inside : pos + i * w + w ≤ length s
+    turn_inside =
+        let m : i + 1 ≤ count = omega arith in
+        omega (arith, mul-le-mul_right w m, add-one i, suc-mul i w, k)
 
-    pub turn_fits : i < count → length s < 2 ^ 64 → Fits w64 (p + w)
-    turn_fits h k = omega (arith, turn_inside h)
+    module _ (small : length s < 2 ^ 64) where
+      pub step_fits : Fits w64 (i * w)
+      step_fits = omega (arith, turn_inside)
 
-    pub turn_place : i < count → width * m + width ≤ length t
-    turn_place h = omega (arith, inv.room, inv.next)
+      pub turn_fits : Fits w64 (pos + i * w)
+      turn_fits = omega (arith, turn_inside)
 
-    pub fill_turn : i < count → w ≡ align_of kind → (v : ℕ) → v ≡ number_at o 0 s p w → (x : ℕ) → x ≡ word_of kind v → (y : ℕ) → y ≡ stored_of kind → (u : List ℕ) → u ≡ put_row t m (row y i x 0 p) → FillSofar u (i + 1) (p + w) (m + 1)
+  module _ (t : List ℕ) (i : ℕ) (inv : FillSofar t i) where
+    pub turn_place : i < count → width * (n + i) + width ≤ length t
+    turn_place h = omega (arith, inv.room)
+
+    pub fill_turn : i < count → w ≡ align_of kind → (v : ℕ) → v ≡ number_at o 0 s (pos + i * w) w → (x : ℕ) → x ≡ word_of kind v → (y : ℕ) → y ≡ stored_of kind
+        → (u : List ℕ) → u ≡ put_row t (n + i) (row y i x 0 (pos + i * w)) → FillSofar u (i + 1)
     unfolding rows_from
     fill_turn h wide v number x word y stored u put =
+        let p = pos + i * w in
         let e : count - i ≡ suc (count - (i + 1)) = omega arith in
-        let is : u ≡ put_row t m (number_row s o kind i p) = rw (stored, word, number, wide) at put in
-        let f : Filled t u m (number_row s o kind i p ∷ []) = rw is (filled_one t m (number_row s o kind i p) (turn_place h)) in
-        let k : m ≡ n + length inv.new = inv.next ∙ ap (λ (z : ℕ). n + z) (sym inv.some) in
-        let g : Filled t u (n + length inv.new) (number_row s o kind i p ∷ []) = rw k at f in
-        let rest : rows_from s o kind (count - i) i p ≡ number_row s o kind i p ∷ rows_from s o kind (count - (i + 1)) (i + 1) (p + w) = rw (e, wide) in
+        let is : u ≡ put_row t (n + i) (number_row s o kind i p) = rw (stored, word, number ∙ ap (λ (x : ℕ). number_at o 0 s p x) wide) at put in
+        let f : Filled t u (n + i) (number_row s o kind i p ∷ []) = rw is (filled_one t (n + i) (number_row s o kind i p) (turn_place h)) in
+        let g : Filled t u (n + length inv.new) (number_row s o kind i p ∷ []) = rw inv.some f in
+        let q : pos + i * w + w ≡ pos + (i + 1) * w = omega (arith, add-one i, suc-mul i w) in
+        let rest : rows_from s o kind (count - i) i p ≡ number_row s o kind i p ∷ rows_from s o kind (count - (i + 1)) (i + 1) (pos + (i + 1) * w) = rw (← q, e) (ap (λ (x : ℕ). number_row s o kind i p ∷ rows_from s o kind (count - (i + 1)) (i + 1) (p + x)) (sym wide)) in
         record {
           new = inv.new ++ number_row s o kind i p ∷ [];
           same = inv.same ∙ ap (λ (l : List Row). inv.new ++ l) rest ∙ sym (append_assoc inv.new (number_row s o kind i p ∷ []) _);
           some = length-append inv.new (number_row s o kind i p ∷ []) ∙ ap (λ (k : ℕ). k + 1) inv.some;
-          upto = omega arith;
-          next = omega (arith, inv.next);
           filled = filled_then inv.filled g;
-          inside = on_more count i w p (length s) h inv.inside;
           room = rw f.long inv.room;
         }
 
@@ -103,6 +100,8 @@ module _ (s : List ℕ) (o : ByteOrder) (kind w count pos n : ℕ) (t₀ : List 
         let e : count - i ≡ 0 = omega arith in
         let k : rows_from s o kind count 0 pos ≡ inv.new = inv.same ∙ rw e (append-nil inv.new) in
         rw k inv.filled
+
+pub ruleset fill_laws = (fill_start, turn_inside, step_fits, turn_fits, turn_place, fill_turn, fill_end)
 
 -- the most numbers that are asked for
 pub count_most : (count : ℕ) → (eqb count 0 || ltb 0xFFFFFFFF count) ≡ false → count ≤ 0xFFFFFFFF
@@ -115,6 +114,8 @@ module _ (w k : ℕ) (e : w ≡ k) where
 
   pub inside_at : (p count l : ℕ) → p + count * w ≤ l → p + count * k ≤ l
   inside_at p count l h = rw e at h
+
+pub ruleset width_laws = (width_at, inside_at)
 
 -- up to 8 bytes of each of up to 2 ^ 32 - 1 numbers
 pub product_fits : (count w : ℕ) → count ≤ 0xFFFFFFFF → w ≤ 8 → Fits w64 (count * w)
@@ -158,6 +159,8 @@ module _ (s t : List ℕ) (w count p n : ℕ) where
     pub there_place : n + count ≤ capacity t
     there_place = (there_of x h yes).place
 
+pub ruleset there_laws = (count_most, product_fits, not_there, is_there_law)
+
 -- what the test for a number says
 module _ (kind : ℕ) (b : Bool) (is : b ≡ is_number kind) (yes : not b ≡ false) where
   pub number_yes : is_number kind ≡ true
@@ -190,7 +193,7 @@ module _ (s : List ℕ) (set : Settings) (kind : ℕ) (num : is_number kind ≡ 
   whole_steps : align_of kind % alignment_of set.version (align_of kind) ≡ 0
   whole_steps = eqb→eq _ 0 (both_right (leb 1 (alignment_of set.version (align_of kind))) (eqb (align_of kind % alignment_of set.version (align_of kind)) 0) stepped)
 
-  one : (i : ℕ) (c : Cursor) (k v : ℕ) (d : Cursor) → read_number s set c (align_of kind) ≡ number.Got v d → 0 < k → (p : ℕ) → place_before (align_of kind) d.pos ≡ p
+  one : (i : ℕ) (c : Cursor) (k v : ℕ) (d : Cursor) → read_number s set c (align_of kind) ≡ Ok (v, d) → 0 < k → (p : ℕ) → place_before (align_of kind) d.pos ≡ p
       → scalar_of s set kind i c k ≡ read d (row (stored_of kind) i (word_of kind v) 0 p ∷ [])
   unfolding on_number rowed room_for
   one i c zero v d e h p at = absurd (omega arith)
@@ -213,7 +216,7 @@ module _ (s : List ℕ) (set : Settings) (kind : ℕ) (num : is_number kind ≡ 
   start_same left c d k e = ap (λ (x : Outcome). and_then x (λ (y : Cursor) (used : ℕ). elements_from s set kind left (0 + 1) y (k - used))) (number_is kind num s set 0 c k ∙ ap (on_number kind 0 k) e ∙ sym (number_is kind num s set 0 d k))
 
   -- where the first number's alignment is passed first
-  pub run_past : (count : ℕ) (c d : Cursor) (k : ℕ) → 0 < count → align_to s set.version c (align_of kind) ≡ place.At d → c.origin ≤ c.pos → d.pos + count * align_of kind ≤ length s → count ≤ k
+  pub run_past : (count : ℕ) (c d : Cursor) (k : ℕ) → 0 < count → align_to s set.version c (align_of kind) ≡ Ok d → c.origin ≤ c.pos → d.pos + count * align_of kind ≤ length s → count ≤ k
       → elements_from s set kind count 0 c k ≡ read (cursor_at (d.pos + count * align_of kind) c.origin) (rows_from s set.order kind count 0 d.pos)
   unfolding align_to
   run_past zero c d k some e after h l = absurd (omega arith)
@@ -225,11 +228,11 @@ module _ (s : List ℕ) (set : Settings) (kind : ℕ) (num : is_number kind ≡ 
       ∙ run_is (suc left) 0 d k (omega (arith, m.0, m.2)) z h l ∙ ap (λ (x : ℕ). read (cursor_at (d.pos + suc left * align_of kind) x) (rows_from s set.order kind (suc left) 0 d.pos)) m.2
 
   -- what the quick way answers of a list
-  module _ (c : Cursor) (count n w : ℕ) (t : List ℕ) (wide : w ≡ align_of kind) (p : Place) (is : p ≡ align_to s set.version c w) (d : Cursor) (at : p ≡ place.At d) (x : ℕ) (there : WhereThere s t w count d.pos n x) (yes : 0 < x) where
+  module _ (c : Cursor) (count n w : ℕ) (t : List ℕ) (wide : w ≡ align_of kind) (p : Place) (is : p ≡ align_to s set.version c w) (d : Cursor) (at : p ≡ Ok d) (x : ℕ) (there : WhereThere s t w count d.pos n x) (yes : 0 < x) where
     pub run_done : c.origin ≤ c.pos → (u : List ℕ) → Filled t u n (rows_from s set.order kind count 0 d.pos) → Quickly (elements_from s set kind count 0 c (room t n)) count n c.origin t u x
     unfolding room
     run_done after u f =
-        let e : align_to s set.version c (align_of kind) ≡ place.At d = rw wide at (sym is ∙ at) in
+        let e : align_to s set.version c (align_of kind) ≡ (Ok d) = rw wide at (sym is ∙ at) in
         let h : d.pos + count * align_of kind ≤ length s = rw wide at (there_inside s t w count d.pos n x there yes) in
         let y : x ≡ d.pos + count * align_of kind = rw wide at (there_at s t w count d.pos n x there yes) in
         let o = run_past count c d (capacity t - n) (there_some s t w count d.pos n x there yes) e after h (omega (arith, there_place s t w count d.pos n x there yes)) in

@@ -1,11 +1,9 @@
 -- Lists of values that open nothing.
-use Rattle.std.specs.Prelude.{ℕ, zero, suc, ◌+◌, ◌-◌, List, [], ◌∷◌}
+use Rattle.std.specs.Prelude.{ℕ, zero, suc, ◌+◌, ◌-◌, List, [], ◌∷◌, Err, Ok}
 use Rattle.ground.specs.Choice.{pick, among}
 use Rattle.wire.specs.declared.cursor.Cursor.{Cursor}
-use Rattle.wire.specs.declared.cursor.Place.{Place}
-use Rattle.wire.specs.declared.cursor.Place.TheVariants as place
 use Rattle.wire.specs.declared.settings.Settings.{Settings}
-use Rattle.wire.specs.Place.{seek_to}
+use Rattle.wire.specs.Place.{Place, seek_to}
 use Rattle.kinds.specs.Kinds.{stored_of}
 use Rattle.table.specs.Rows.{row}
 use Rattle.table.specs.Outcome.{Outcome, read, short, room_for, prepend, and_then}
@@ -24,8 +22,8 @@ unfoldable pub list_of : List ℕ → Settings → ℕ → ℕ → ℕ → Curso
 list_of s set kind id count c room = room_for room (prepend (row 25 id (stored_of kind) count c.pos ∷ []) (elements_from s set kind count 0 c (room - 1)))
 
 unfoldable pub on_block : Place → Outcome → Outcome
-on_block (place.Short x) o = short x
-on_block (place.At d) o = o
+on_block (Err x) o = short x
+on_block (Ok d) o = o
 
 -- "for BYTE and UINT8, after its bytes": they are asked for in one block
 unfoldable pub block_of : List ℕ → Settings → ℕ → ℕ → ℕ → Cursor → ℕ → Outcome

@@ -1,20 +1,13 @@
 -- A value that opens nothing.
-use Rattle.std.specs.Prelude.{ℕ, ◌-◌, Bool, true, false, List, [], ◌∷◌, eqb}
+use Rattle.std.specs.Prelude.{ℕ, ◌-◌, Bool, true, false, List, [], ◌∷◌, eqb, Err, Ok}
 use Rattle.ground.specs.Choice.{pick, among}
 use Rattle.wire.specs.declared.cursor.Cursor.{Cursor}
 use Rattle.wire.specs.declared.settings.Settings.{Settings}
-use Rattle.wire.specs.declared.number.Number.{Number}
-use Rattle.wire.specs.declared.number.Number.TheVariants as number
-use Rattle.wire.specs.declared.number.Float128.{Float128}
-use Rattle.wire.specs.declared.number.Float128.TheVariants as float128
-use Rattle.wire.specs.declared.number.Boolean.{Boolean}
-use Rattle.wire.specs.declared.number.Boolean.TheVariants as boolean
-use Rattle.wire.specs.Number.{read_number, read_float128, read_boolean}
+use Rattle.wire.specs.declared.cursor.Unread.TheVariants as unread
+use Rattle.wire.specs.Number.{Number, Float128, Boolean, read_number, read_float128, read_boolean}
 use Rattle.wire.specs.Signed.{extended}
 use Rattle.kinds.specs.Kinds.{align_of, stored_of, is_primitive, is_signed}
-use Rattle.text.specs.declared.string.Text.{Text}
-use Rattle.text.specs.declared.string.Text.TheVariants as text
-use Rattle.text.specs.Text.{string_type, wstring_type}
+use Rattle.text.specs.Text.{Text, string_type, wstring_type}
 use Rattle.table.specs.declared.rows.Row.{Row}
 use Rattle.table.specs.declared.out.Refusal.TheVariants.{InvalidData, Unsupported}
 use Rattle.table.specs.Rows.{row}
@@ -35,14 +28,14 @@ bool_word false = 0
 
 -- "Bool: byte 0 or 1, else 2."
 unfoldable pub on_boolean : ℕ → ℕ → Boolean → Outcome
-on_boolean id room (boolean.Got v c) = rowed room c (row 1 id (bool_word v) 0 (place_before 1 c.pos))
-on_boolean id room boolean.Bad = refused InvalidData
-on_boolean id room (boolean.Short x) = short x
+on_boolean id room (Ok (v, c)) = rowed room c (row 1 id (bool_word v) 0 (place_before 1 c.pos))
+on_boolean id room (Err unread.Bad) = refused InvalidData
+on_boolean id room (Err (unread.Short x)) = short x
 
 -- "FLOAT128 low half a, high half b"
 unfoldable pub on_float128 : ℕ → ℕ → Float128 → Outcome
-on_float128 id room (float128.Got low high c) = rowed room c (row 11 id low high (place_before 16 c.pos))
-on_float128 id room (float128.Short x) = short x
+on_float128 id room (Ok (low, high, c)) = rowed room c (row 11 id low high (place_before 16 c.pos))
+on_float128 id room (Err x) = short x
 
 -- "Scalars put the value in a: signed extended to 64 bits, floats as bits"
 unfoldable pub word_of : ℕ → ℕ → ℕ
@@ -50,14 +43,14 @@ word_of kind v = pick (is_signed kind) (extended (align_of kind) v) v
 
 -- any other number: "BYTE is stored as 13." "CHAR8: the byte's number."
 unfoldable pub on_number : ℕ → ℕ → ℕ → Number → Outcome
-on_number kind id room (number.Got v c) = rowed room c (row (stored_of kind) id (word_of kind v) 0 (place_before (align_of kind) c.pos))
-on_number kind id room (number.Short x) = short x
+on_number kind id room (Ok (v, c)) = rowed room c (row (stored_of kind) id (word_of kind v) 0 (place_before (align_of kind) c.pos))
+on_number kind id room (Err x) = short x
 
 -- "Text 16: a start in the data, b bytes; 17: b 16-bit units." Order 7: "for a text, of its length", which are the four bytes before its start
 unfoldable pub on_text : ℕ → ℕ → ℕ → Text → Outcome
-on_text kind id room (text.Got start size c) = rowed room c (row kind id start size (place_before 4 start))
-on_text kind id room text.Bad = refused InvalidData
-on_text kind id room (text.Short x) = short x
+on_text kind id room (Ok (start, size, c)) = rowed room c (row kind id start size (place_before 4 start))
+on_text kind id room (Err unread.Bad) = refused InvalidData
+on_text kind id room (Err (unread.Short x)) = short x
 
 -- a value by its kind. "11: member kinds 15, .."
 unfoldable pub scalar_of : List ℕ → Settings → ℕ → ℕ → Cursor → ℕ → Outcome

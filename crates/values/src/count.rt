@@ -2,16 +2,21 @@
 ghost use Rattle.std.specs.Prelude.{◌≡◌};
 ghost use Rattle.values.specs.Count.{count_at};
 
-use wire::cursor::Cursor;
-use wire::number::{Number, read_number};
-use wire::settings::Settings;
+use wire::cursor::{Cursor, Shortage};
+use wire::reader::Reader;
 
 // A sequence tells its length, an array has its bound. The cursor is where the elements begin.
-pub fn count_at(s: &[u8], set: Settings, sequence: bool, bound: u64, at: Cursor) -> Number
-    ensures { result ≡ count_at s.now set sequence bound at }
+#[tactic(auto, using(std::proofs::lemmas::Bool::Decides::nat_tests), unfolding(crate::specs::Count::count_at))]
+pub fn count_at(
+    r: Reader,
+    sequence: bool,
+    bound: u64,
+    at: Cursor,
+) -> Result<(u64, Cursor), Shortage>
+    ensures { result ≡ count_at r.entry.bytes.now r.entry.set sequence bound at }
 {
     if sequence {
-        return read_number(s, set, at, 4);
+        return r.read_number(at, 4);
     }
-    Number::Got(bound, at)
+    Ok((bound, at))
 }

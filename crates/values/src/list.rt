@@ -7,92 +7,63 @@ ghost use Rattle.values.specs.List.{elements_from, list_of};
 ghost use Rattle.values.specs.Code.Lists.{block_at, plain_of};
 ghost use Rattle.values.specs.Code.Quick.{Quickly};
 
+use crate::{quick, scalar};
 use kinds::names::{BOOLEAN, SEQUENCE, STRING8};
-use table::out::{Out, Refusal};
+use table::out::{Out, Refusal, Trouble};
 use table::rows::{Row, is_full, put_row};
-use wire::cursor::{Cursor, Place};
-use wire::settings::Settings;
+use wire::cursor::{Cursor, Shortage};
+use wire::reader::Reader;
 
-// The quick way for a list's texts and booleans, the most frequent of what is no number.
-fn element(s: &[u8], set: Settings, t: &mut [u64], kind: u8, id: u64, at: Cursor, n: usize) -> usize
-    ensures { Quickly (scalar_of s.now set kind id at (room t.old n)) 1 n at.origin t.old t.new result }
+// The quick way for a list's texts and booleans, the most frequent of what is no number. Its answer is a word, as those of `quick` are.
+#[tactic(auto, using(crate::proofs::Quickly::quick_laws))]
+fn element(r: Reader, t: &mut [u64], kind: u8, id: u64, at: Cursor, n: usize) -> usize
+    ensures { Quickly (scalar_of r.entry.bytes.now r.entry.set kind id at (room t.old n)) 1 n at.origin t.old t.new result }
 {
     if is_full(t, n) {
         return 0;
     }
     match kind {
-        STRING8 => crate::quick::text_at(s, set, t, id, at, n),
-        BOOLEAN => crate::quick::boolean_at(s, set, t, id, at, n),
+        STRING8 => quick::text_at(r, t, id, at, n),
+        BOOLEAN => quick::boolean_at(r, t, id, at, n),
         _ => 0,
     }
 }
 
 // The elements, one by one.
-fn each(s: &[u8], set: Settings, t: &mut [u64], kind: u8, count: u64, at: Cursor, n: usize) -> Out
-    ensures { Done (elements_from s.now set kind count 0 at (room t.old n)) n t.old t.new result }
+fn each(r: Reader, t: &mut [u64], kind: u8, count: u64, at: Cursor, n: usize) -> Out
+    ensures { Done (elements_from r.entry.bytes.now r.entry.set kind count 0 at (room t.old n)) n t.old t.new result }
 {
-    let mut i: u64 = 0;
     let mut c = at;
     let mut m = n;
-    while i < count {
-        let past = element(s, set, t, kind, i, c, m);
+    for i in 0..count {
+        let past = element(r, t, kind, i, c, m);
         if 0 < past {
             c = Cursor::new(past, c.origin);
             m += 1;
-            i += 1;
             continue;
         }
-        match crate::scalar::scalar(s, set, t, kind, i, c, m) {
-            Out::Read(d, k) => {
-                c = d;
-                m = k;
-            }
-            Out::Short(x) => {
-                return Out::Short(x);
-            }
-            Out::Refused(k) => {
-                return Out::Refused(k);
-            }
-        }
-        i += 1;
+        (c, m) = scalar::scalar(r, t, kind, i, c, m)?;
     }
-    Out::Read(c, m)
+    Ok((c, m))
 }
 
 // The elements: all at once where they are numbers that are there whole, else one by one.
-fn elements(
-    s: &[u8],
-    set: Settings,
-    t: &mut [u64],
-    kind: u8,
-    count: u64,
-    at: Cursor,
-    n: usize,
-) -> Out
-    ensures { Done (elements_from s.now set kind count 0 at (room t.old n)) n t.old t.new result }
+fn elements(r: Reader, t: &mut [u64], kind: u8, count: u64, at: Cursor, n: usize) -> Out
+    ensures { Done (elements_from r.entry.bytes.now r.entry.set kind count 0 at (room t.old n)) n t.old t.new result }
 {
-    let past = crate::quick::numbers_at(s, set, t, kind, count, at, n);
+    let past = quick::numbers_at(r, t, kind, count, at, n);
     if 0 < past {
-        return Out::Read(Cursor::new(past, at.origin), n + (count as usize));
+        return Ok((Cursor::new(past, at.origin), n + (count as usize)));
     }
-    each(s, set, t, kind, count, at, n)
+    each(r, t, kind, count, at, n)
 }
 
 // The list's row, then its elements.
-fn list(
-    s: &[u8],
-    set: Settings,
-    t: &mut [u64],
-    kind: u8,
-    id: u64,
-    count: u64,
-    at: Cursor,
-    n: usize,
-) -> Out
-    ensures { Done (list_of s.now set kind id count at (room t.old n)) n t.old t.new result }
+fn list(r: Reader, t: &mut [u64], kind: u8, id: u64, count: u64, at: Cursor, n: usize) -> Out
+    ensures { Done (list_of r.entry.bytes.now r.entry.set kind id count at (room t.old n)) n t.old t.new result }
 {
     if is_full(t, n) {
-        return Out::Refused(Refusal::NoRoom);
+        return Err(Trouble::Refused(Refusal::NoRoom));
     }
     let row = Row {
         kind: kinds::stored_of(SEQUENCE) as u64,
@@ -102,24 +73,25 @@ fn list(
         place: at.pos as u64,
     };
     put_row(t, n, row);
-    elements(s, set, t, kind, count, at, n + 1)
+    elements(r, t, kind, count, at, n + 1)
 }
 
 // The bytes of a list of BYTE or UINT8 are asked for in one block, before its row.
-fn block(s: &[u8], bytes: bool, count: u64, at: Cursor) -> Place
-    ensures { result ≡ block_at «bytes» s.now at count }
+#[tactic(auto, using(std::proofs::lemmas::Bool::Decides::nat_tests), unfolding(crate::specs::Code::Lists::block_at))]
+fn block(r: Reader, bytes: bool, count: u64, at: Cursor) -> Result<Cursor, Shortage>
+    ensures { result ≡ block_at «bytes» r.entry.bytes.now at count }
 {
     if bytes {
-        return at.seek(s, count as usize);
+        return at.seek(r.bytes, count as usize);
     }
-    Place::At(at)
+    Ok(at)
 }
 
 // A list by the kind that its elements are read as; `bytes` says whether their own kind is BYTE or UINT8. A bitmask that is read as UINT8 is no byte: its list
 // asks for no block. There is one such function, and one place that calls it, so the compiler takes it in there.
+#[tactic(auto, using(std::proofs::lemmas::Bool::Decides::nat_tests), unfolding(crate::specs::Code::Lists::plain_of, crate::specs::List::on_block))]
 pub fn plain(
-    s: &[u8],
-    set: Settings,
+    r: Reader,
     t: &mut [u64],
     kind: u8,
     bytes: bool,
@@ -128,10 +100,8 @@ pub fn plain(
     at: Cursor,
     n: usize,
 ) -> Out
-    ensures { Done (plain_of «bytes» s.now set kind id count at (room t.old n)) n t.old t.new result }
+    ensures { Done (plain_of «bytes» r.entry.bytes.now r.entry.set kind id count at (room t.old n)) n t.old t.new result }
 {
-    match block(s, bytes, count, at) {
-        Place::Short(x) => Out::Short(x),
-        Place::At(_) => list(s, set, t, kind, id, count, at, n),
-    }
+    block(r, bytes, count, at)?;
+    list(r, t, kind, id, count, at, n)
 }

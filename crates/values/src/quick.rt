@@ -1,6 +1,9 @@
 // The quick way: numbers, booleans and texts that are there whole, and whose rows have a place. Most members and elements are such. It reads by the same
-// rules as `scalar`, and leaves to that whatever it does not take. A function here tells the position after what it took; or 0, and nothing is done. A word,
-// and not an enum, is what a call hands back in a register.
+// rules as `scalar`, and leaves to that whatever it does not take. A function here tells the position after what it took; or 0, and nothing is done.
+// A word and not an Option: a call hands a word back in a register.
+// The laws of the quick way close what is asked of its functions, most of them without an answer.
+#![tactic(auto, using(crate::proofs::Quickly::quick_laws), unfolding(crate::specs::Code::Quick::is_number, crate::specs::Code::Quick::is_taken))]
+
 ghost use Rattle.std.specs.Prelude.{◌≡◌, Bool, true, false, ◌+◌, ◌*◌, ◌≤◌, ◌<◌, length};
 ghost use Rattle.kinds.specs.Kinds.{align_of, stored_of};
 ghost use Rattle.table.specs.Rows.{capacity, room, row_at, no_room};
@@ -12,27 +15,27 @@ ghost use Rattle.values.specs.Code.Quick.{is_number, is_taken, Quickly, rows_fro
 
 use crate::scalar::word_of;
 use kinds::names::{
-    BOOLEAN, BYTE, CHAR8, FLOAT32, FLOAT64, FLOAT128, INT8, INT16, INT32, INT64, SEQUENCE, STRING8,
-    UINT8, UINT16, UINT32, UINT64,
+    BOOLEAN, BYTE, CHAR8, FLOAT32, FLOAT64, INT8, INT16, INT32, INT64, SEQUENCE, STRING8, UINT8,
+    UINT16, UINT32, UINT64,
 };
 use kinds::{stored, widths};
 use table::rows::{Row, is_full, put_row};
 use text::string::is_text;
-use wire::cursor::{Cursor, Place};
+use wire::cursor::Cursor;
 use wire::number::from_bytes;
-use wire::settings::{ByteOrder, Settings};
+use wire::reader::Reader;
 
 // The numbers of up to 8 bytes; a boolean is judged, and CHAR16 is unsupported.
+#[tactic(auto, using(std::proofs::lemmas::Bool::Decides::nat_tests), unfolding(crate::specs::Code::Quick::is_number))]
 fn is_number(kind: u8) -> bool
     ensures { result ≡ is_number kind }
 {
-    (BYTE <= kind) & (kind <= CHAR8) & !(kind == FLOAT128)
+    matches!(kind, BYTE..=FLOAT64 | INT8..=CHAR8)
 }
 
-// A number and its row. Where the width and the row's kind are known, the machine's code for it is short.
-fn number_at(
-    s: &[u8],
-    set: Settings,
+// A number and its row. The width and the row's kind come from the caller: where it knows them when this is compiled, the machine's code is short.
+fn any_number_at(
+    r: Reader,
     t: &mut [u64],
     kind: u8,
     stored: u64,
@@ -42,16 +45,13 @@ fn number_at(
     n: usize,
 ) -> usize
     requires { (no_room t.old n ≡ false) × (is_number kind ≡ true) × (stored ≡ stored_of kind) × (width ≡ align_of kind) }
-    ensures { Quickly (scalar_of s.now set kind id at (room t.old n)) 1 n at.origin t.old t.new result }
+    ensures { Quickly (scalar_of r.entry.bytes.now r.entry.set kind id at (room t.old n)) 1 n at.origin t.old t.new result }
 {
-    let version = set.version;
-    let order = set.order;
-    let end = s.len();
-    let q = at.start(s, version, width);
-    if end < q + width {
+    let q = at.start(r.bytes, r.set.version, width);
+    if r.bytes.len() < q + width {
         return 0;
     }
-    let v = from_bytes(s, order, q, width);
+    let v = from_bytes(r.bytes, r.set.order, q, width);
     let row = Row {
         kind: stored,
         id,
@@ -63,19 +63,26 @@ fn number_at(
     q + width
 }
 
-// A boolean, where it is 0 or 1.
-pub fn boolean_at(s: &[u8], set: Settings, t: &mut [u64], id: u64, at: Cursor, n: usize) -> usize
-    requires { no_room t.old n ≡ false }
-    ensures { Quickly (scalar_of s.now set 1 id at (room t.old n)) 1 n at.origin t.old t.new result }
+// A number of a kind that is known when this is compiled, and so are its width and its row's kind, which the table says.
+fn number_at<const KIND: u8>(r: Reader, t: &mut [u64], id: u64, at: Cursor, n: usize) -> usize
+    requires { (no_room t.old n ≡ false) × (is_number KIND ≡ true) }
+    ensures { Quickly (scalar_of r.entry.bytes.now r.entry.set KIND id at (room t.old n)) 1 n at.origin t.old t.new result }
 {
-    let version = set.version;
-    let order = set.order;
-    let end = s.len();
-    let q = at.start(s, version, widths::BOOLEAN);
-    if end < q + widths::BOOLEAN {
+    let row_kind = u64::from(kinds::stored_of(KIND));
+    let width = usize::from(kinds::align_of(KIND));
+    any_number_at(r, t, KIND, row_kind, width, id, at, n)
+}
+
+// A boolean, where it is 0 or 1.
+pub fn boolean_at(r: Reader, t: &mut [u64], id: u64, at: Cursor, n: usize) -> usize
+    requires { no_room t.old n ≡ false }
+    ensures { Quickly (scalar_of r.entry.bytes.now r.entry.set 1 id at (room t.old n)) 1 n at.origin t.old t.new result }
+{
+    let q = at.start(r.bytes, r.set.version, widths::BOOLEAN);
+    if r.bytes.len() < q + widths::BOOLEAN {
         return 0;
     }
-    let v = from_bytes(s, order, q, widths::BOOLEAN);
+    let v = from_bytes(r.bytes, r.set.order, q, widths::BOOLEAN);
     if 1 < v {
         return 0;
     }
@@ -91,26 +98,23 @@ pub fn boolean_at(s: &[u8], set: Settings, t: &mut [u64], id: u64, at: Cursor, n
 }
 
 // A text, where it is well-formed.
-pub fn text_at(s: &[u8], set: Settings, t: &mut [u64], id: u64, at: Cursor, n: usize) -> usize
+pub fn text_at(r: Reader, t: &mut [u64], id: u64, at: Cursor, n: usize) -> usize
     requires { no_room t.old n ≡ false }
-    ensures { Quickly (scalar_of s.now set 16 id at (room t.old n)) 1 n at.origin t.old t.new result }
+    ensures { Quickly (scalar_of r.entry.bytes.now r.entry.set 16 id at (room t.old n)) 1 n at.origin t.old t.new result }
 {
-    let version = set.version;
-    let order = set.order;
-    let end = s.len();
-    let q = at.start(s, version, 4);
-    if end < q + 4 {
+    let q = at.start(r.bytes, r.set.version, 4);
+    if r.bytes.len() < q + 4 {
         return 0;
     }
-    let size = from_bytes(s, order, q, 4) as usize;
+    let size = from_bytes(r.bytes, r.set.order, q, 4) as usize;
     let start = q + 4;
     if size == 0 {
         return 0;
     }
-    if end - start < size {
+    if r.bytes.len() - start < size {
         return 0;
     }
-    if !is_text(s, start, size - 1) {
+    if !is_text(r.bytes, start, size - 1) {
         return 0;
     }
     let row = Row {
@@ -126,149 +130,75 @@ pub fn text_at(s: &[u8], set: Settings, t: &mut [u64], id: u64, at: Cursor, n: u
 
 // A value of this kind. In an arm the kind is known, and so are its width and its row's kind, which the table says: looked up when this is compiled, they cost
 // nothing, and a number is taken with two thirds of the instructions that four arms by width would take, each look-up made anew.
-pub fn value_at(
-    s: &[u8],
-    set: Settings,
-    t: &mut [u64],
-    kind: u8,
-    id: u64,
-    at: Cursor,
-    n: usize,
-) -> usize
-    ensures { Quickly (scalar_of s.now set kind id at (room t.old n)) 1 n at.origin t.old t.new result × (0 < result → is_taken kind ≡ true) }
+pub fn value_at(r: Reader, t: &mut [u64], kind: u8, id: u64, at: Cursor, n: usize) -> usize
+    ensures { Quickly (scalar_of r.entry.bytes.now r.entry.set kind id at (room t.old n)) 1 n at.origin t.old t.new result × (0 < result → is_taken kind ≡ true) }
 {
     if is_full(t, n) {
         return 0;
     }
     match kind {
-        BOOLEAN => boolean_at(s, set, t, id, at, n),
-        BYTE => number_at(s, set, t, kind, stored::BYTE, widths::BYTE, id, at, n),
-        INT16 => number_at(s, set, t, kind, stored::INT16, widths::INT16, id, at, n),
-        INT32 => number_at(s, set, t, kind, stored::INT32, widths::INT32, id, at, n),
-        INT64 => number_at(s, set, t, kind, stored::INT64, widths::INT64, id, at, n),
-        UINT16 => number_at(s, set, t, kind, stored::UINT16, widths::UINT16, id, at, n),
-        UINT32 => number_at(s, set, t, kind, stored::UINT32, widths::UINT32, id, at, n),
-        UINT64 => number_at(s, set, t, kind, stored::UINT64, widths::UINT64, id, at, n),
-        FLOAT32 => number_at(s, set, t, kind, stored::FLOAT32, widths::FLOAT32, id, at, n),
-        FLOAT64 => number_at(s, set, t, kind, stored::FLOAT64, widths::FLOAT64, id, at, n),
-        INT8 => number_at(s, set, t, kind, stored::INT8, widths::INT8, id, at, n),
-        UINT8 => number_at(s, set, t, kind, stored::UINT8, widths::UINT8, id, at, n),
-        CHAR8 => number_at(s, set, t, kind, stored::CHAR8, widths::CHAR8, id, at, n),
-        STRING8 => text_at(s, set, t, id, at, n),
+        BOOLEAN => boolean_at(r, t, id, at, n),
+        BYTE => number_at::<BYTE>(r, t, id, at, n),
+        INT16 => number_at::<INT16>(r, t, id, at, n),
+        INT32 => number_at::<INT32>(r, t, id, at, n),
+        INT64 => number_at::<INT64>(r, t, id, at, n),
+        UINT16 => number_at::<UINT16>(r, t, id, at, n),
+        UINT32 => number_at::<UINT32>(r, t, id, at, n),
+        UINT64 => number_at::<UINT64>(r, t, id, at, n),
+        FLOAT32 => number_at::<FLOAT32>(r, t, id, at, n),
+        FLOAT64 => number_at::<FLOAT64>(r, t, id, at, n),
+        INT8 => number_at::<INT8>(r, t, id, at, n),
+        UINT8 => number_at::<UINT8>(r, t, id, at, n),
+        CHAR8 => number_at::<CHAR8>(r, t, id, at, n),
+        STRING8 => text_at(r, t, id, at, n),
         _ => 0,
     }
 }
 
 // The same once more, for members that were found: the compiler takes a function into a loop where nothing else calls it, and a call for
 // each member would cost as much as the member.
-pub fn found_value_at(
-    s: &[u8],
-    set: Settings,
-    t: &mut [u64],
-    kind: u8,
-    id: u64,
-    found: Cursor,
-    n: usize,
-) -> usize
-    ensures { Quickly (scalar_of s.now set kind id found (room t.old n)) 1 n found.origin t.old t.new result × (0 < result → is_taken kind ≡ true) }
+pub fn found_value_at(r: Reader, t: &mut [u64], kind: u8, id: u64, found: Cursor, n: usize) -> usize
+    ensures { Quickly (scalar_of r.entry.bytes.now r.entry.set kind id found (room t.old n)) 1 n found.origin t.old t.new result × (0 < result → is_taken kind ≡ true) }
 {
     if is_full(t, n) {
         return 0;
     }
     match kind {
-        BOOLEAN => boolean_at(s, set, t, id, found, n),
-        BYTE => number_at(s, set, t, kind, stored::BYTE, widths::BYTE, id, found, n),
-        INT16 => number_at(s, set, t, kind, stored::INT16, widths::INT16, id, found, n),
-        INT32 => number_at(s, set, t, kind, stored::INT32, widths::INT32, id, found, n),
-        INT64 => number_at(s, set, t, kind, stored::INT64, widths::INT64, id, found, n),
-        UINT16 => number_at(
-            s,
-            set,
-            t,
-            kind,
-            stored::UINT16,
-            widths::UINT16,
-            id,
-            found,
-            n,
-        ),
-        UINT32 => number_at(
-            s,
-            set,
-            t,
-            kind,
-            stored::UINT32,
-            widths::UINT32,
-            id,
-            found,
-            n,
-        ),
-        UINT64 => number_at(
-            s,
-            set,
-            t,
-            kind,
-            stored::UINT64,
-            widths::UINT64,
-            id,
-            found,
-            n,
-        ),
-        FLOAT32 => number_at(
-            s,
-            set,
-            t,
-            kind,
-            stored::FLOAT32,
-            widths::FLOAT32,
-            id,
-            found,
-            n,
-        ),
-        FLOAT64 => number_at(
-            s,
-            set,
-            t,
-            kind,
-            stored::FLOAT64,
-            widths::FLOAT64,
-            id,
-            found,
-            n,
-        ),
-        INT8 => number_at(s, set, t, kind, stored::INT8, widths::INT8, id, found, n),
-        UINT8 => number_at(s, set, t, kind, stored::UINT8, widths::UINT8, id, found, n),
-        CHAR8 => number_at(s, set, t, kind, stored::CHAR8, widths::CHAR8, id, found, n),
-        STRING8 => text_at(s, set, t, id, found, n),
+        BOOLEAN => boolean_at(r, t, id, found, n),
+        BYTE => number_at::<BYTE>(r, t, id, found, n),
+        INT16 => number_at::<INT16>(r, t, id, found, n),
+        INT32 => number_at::<INT32>(r, t, id, found, n),
+        INT64 => number_at::<INT64>(r, t, id, found, n),
+        UINT16 => number_at::<UINT16>(r, t, id, found, n),
+        UINT32 => number_at::<UINT32>(r, t, id, found, n),
+        UINT64 => number_at::<UINT64>(r, t, id, found, n),
+        FLOAT32 => number_at::<FLOAT32>(r, t, id, found, n),
+        FLOAT64 => number_at::<FLOAT64>(r, t, id, found, n),
+        INT8 => number_at::<INT8>(r, t, id, found, n),
+        UINT8 => number_at::<UINT8>(r, t, id, found, n),
+        CHAR8 => number_at::<CHAR8>(r, t, id, found, n),
+        STRING8 => text_at(r, t, id, found, n),
         _ => 0,
     }
 }
 
 // The same by three arms, with the entries of a number's kind looked up as it runs: for what the members' loops do not take, an optional member or one that a
 // union selects.
-pub fn any_at(
-    s: &[u8],
-    set: Settings,
-    t: &mut [u64],
-    kind: u8,
-    id: u64,
-    at: Cursor,
-    n: usize,
-) -> usize
-    ensures quickly { Quickly (scalar_of s.now set kind id at (room t.old n)) 1 n at.origin t.old t.new result }
+pub fn any_at(r: Reader, t: &mut [u64], kind: u8, id: u64, at: Cursor, n: usize) -> usize
+    ensures quickly { Quickly (scalar_of r.entry.bytes.now r.entry.set kind id at (room t.old n)) 1 n at.origin t.old t.new result }
     ensures taken { 0 < result → is_taken kind ≡ true }
 {
     if is_full(t, n) {
         return 0;
     }
     match kind {
-        BOOLEAN => boolean_at(s, set, t, id, at, n),
-        STRING8 => text_at(s, set, t, id, at, n),
+        BOOLEAN => boolean_at(r, t, id, at, n),
+        STRING8 => text_at(r, t, id, at, n),
         _ => {
             if is_number(kind) {
                 let row_kind = kinds::stored_of(kind) as u64;
                 let own_width = kinds::align_of(kind) as usize;
-                return number_at(s, set, t, kind, row_kind, own_width, id, at, n);
+                return any_number_at(r, t, kind, row_kind, own_width, id, at, n);
             }
             0
         }
@@ -276,9 +206,9 @@ pub fn any_at(
 }
 
 // The rows of a list's numbers. Nothing is asked in the loop, so the machine may take several at once.
+#[tactic(auto, using(crate::proofs::Quickly::quick_laws, crate::proofs::Runs::fill_laws))]
 fn fill(
-    s: &[u8],
-    order: ByteOrder,
+    r: Reader,
     t: &mut [u64],
     kind: u8,
     stored: u64,
@@ -287,14 +217,12 @@ fn fill(
     pos: usize,
     n: usize,
 )
-    requires { (is_number kind ≡ true) × (stored ≡ stored_of kind) × (width ≡ align_of kind) × (pos + count * width ≤ length s.now) × (n + count ≤ capacity t.old) }
-    ensures { Filled t.old t.new n (rows_from s.now order kind count 0 pos) }
+    requires { (is_number kind ≡ true) × (stored ≡ stored_of kind) × (width ≡ align_of kind) × (pos + count * width ≤ length r.bytes.now) × (n + count ≤ capacity t.old) }
+    ensures { Filled t.old t.new n (rows_from r.entry.bytes.now r.entry.set.order kind count 0 pos) }
 {
-    let mut i = 0;
-    let mut p = pos;
-    let mut m = n;
-    while i < count {
-        let v = from_bytes(s, order, p, width);
+    for i in 0..count {
+        let p = pos + i * width;
+        let v = from_bytes(r.bytes, r.set.order, p, width);
         let row = Row {
             kind: stored,
             id: i as u64,
@@ -302,17 +230,14 @@ fn fill(
             b: 0,
             place: p as u64,
         };
-        put_row(t, m, row);
-        i += 1;
-        m += 1;
-        p += width;
+        put_row(t, n + i, row);
     }
 }
 
 // By a width that is known, the machine's code for the loop is short.
+#[tactic(auto, using(crate::proofs::Runs::width_laws))]
 fn fill_by_width(
-    s: &[u8],
-    order: ByteOrder,
+    r: Reader,
     t: &mut [u64],
     kind: u8,
     stored: u64,
@@ -321,24 +246,25 @@ fn fill_by_width(
     pos: usize,
     n: usize,
 )
-    requires { (is_number kind ≡ true) × (stored ≡ stored_of kind) × (width ≡ align_of kind) × (pos + count * width ≤ length s.now) × (n + count ≤ capacity t.old) }
-    ensures { Filled t.old t.new n (rows_from s.now order kind count 0 pos) }
+    requires { (is_number kind ≡ true) × (stored ≡ stored_of kind) × (width ≡ align_of kind) × (pos + count * width ≤ length r.bytes.now) × (n + count ≤ capacity t.old) }
+    ensures { Filled t.old t.new n (rows_from r.entry.bytes.now r.entry.set.order kind count 0 pos) }
 {
     match width {
-        1 => fill(s, order, t, kind, stored, 1, count, pos, n),
-        2 => fill(s, order, t, kind, stored, 2, count, pos, n),
-        4 => fill(s, order, t, kind, stored, 4, count, pos, n),
-        _ => fill(s, order, t, kind, stored, width, count, pos, n),
+        1 => fill(r, t, kind, stored, 1, count, pos, n),
+        2 => fill(r, t, kind, stored, 2, count, pos, n),
+        4 => fill(r, t, kind, stored, 4, count, pos, n),
+        _ => fill(r, t, kind, stored, width, count, pos, n),
     }
 }
 
 // The position after `count` numbers from pos on, where the data has them and the table a place for their rows; else 0.
-fn end_of(s: &[u8], t: &[u64], width: usize, count: u64, pos: usize, n: usize) -> usize
+#[tactic(auto, using(crate::proofs::Runs::there_laws))]
+fn end_of(r: Reader, t: &[u64], width: usize, count: u64, pos: usize, n: usize) -> usize
     requires { (0 < width) × (width ≤ 8) }
-    ensures { WhereThere s.now t.now width count pos n result }
+    ensures { WhereThere r.entry.bytes.now t.now width count pos n result }
 {
     let rows = t.len() / table::rows::WIDTH;
-    let end = s.len();
+    let end = r.bytes.len();
     if (count == 0) | (0xFFFF_FFFF < count) {
         return 0;
     }
@@ -359,50 +285,34 @@ fn end_of(s: &[u8], t: &[u64], width: usize, count: u64, pos: usize, n: usize) -
 }
 
 // The numbers of a whole list; of an empty one whatever they would be.
-pub fn numbers_at(
-    s: &[u8],
-    set: Settings,
-    t: &mut [u64],
-    kind: u8,
-    count: u64,
-    at: Cursor,
-    n: usize,
-) -> usize
-    ensures { Quickly (elements_from s.now set kind count 0 at (room t.old n)) count n at.origin t.old t.new result }
+pub fn numbers_at(r: Reader, t: &mut [u64], kind: u8, count: u64, at: Cursor, n: usize) -> usize
+    ensures { Quickly (elements_from r.entry.bytes.now r.entry.set kind count 0 at (room t.old n)) count n at.origin t.old t.new result }
 {
-    let from = at.pos;
-    let origin = at.origin;
     if count == 0 {
-        return from;
+        return at.pos;
     }
     if !is_number(kind) {
         return 0;
     }
-    if from < origin {
+    if at.pos < at.origin {
         return 0;
     }
-    let version = set.version;
-    let order = set.order;
     let width = kinds::align_of(kind) as usize;
     let stored = kinds::stored_of(kind) as u64;
-    match at.align(s, version, width) {
-        Place::Short(_) => 0,
-        Place::At(c) => {
-            let pos = c.pos;
-            let end = end_of(s, t, width, count, pos, n);
-            if 0 < end {
-                fill_by_width(s, order, t, kind, stored, width, count as usize, pos, n);
-            }
-            end
-        }
+    let Ok(c) = at.align(r.bytes, r.set.version, width) else {
+        return 0;
+    };
+    let end = end_of(r, t, width, count, c.pos, n);
+    if 0 < end {
+        fill_by_width(r, t, kind, stored, width, count as usize, c.pos, n);
     }
+    end
 }
 
 // A list: its row, once its numbers have theirs. A number has a byte at least, so where the data has fewer bytes it has not all of them; and the block that is
 // asked for before a list of bytes is there.
 pub fn list_at(
-    s: &[u8],
-    set: Settings,
+    r: Reader,
     t: &mut [u64],
     kind: u8,
     id: u64,
@@ -410,10 +320,10 @@ pub fn list_at(
     at: Cursor,
     n: usize,
 ) -> usize
-    ensures { ((bytes : Bool) → Quickly (plain_of bytes s.now set kind id count at (room t.old n)) (1 + count) n at.origin t.old t.new result) × (0 < result → (row_at t.new n).b ≡ count) }
+    ensures { ((bytes : Bool) → Quickly (plain_of bytes r.entry.bytes.now r.entry.set kind id count at (room t.old n)) (1 + count) n at.origin t.old t.new result) × (0 < result → (row_at t.new n).b ≡ count) }
 {
     let from = at.pos;
-    let end = s.len();
+    let end = r.bytes.len();
     if is_full(t, n) {
         return 0;
     }
@@ -423,7 +333,7 @@ pub fn list_at(
     if ((end - from) as u64) < count {
         return 0;
     }
-    let past = numbers_at(s, set, t, kind, count, at, n + 1);
+    let past = numbers_at(r, t, kind, count, at, n + 1);
     if 0 < past {
         let row = Row {
             kind: kinds::stored_of(SEQUENCE) as u64,

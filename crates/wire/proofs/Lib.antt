@@ -2,6 +2,5 @@ pub mod Moves
 pub mod Digits
 pub mod Numbers
 pub mod Words
-pub mod Identifiers
 pub mod Contents
 mod Examples

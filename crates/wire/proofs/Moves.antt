@@ -1,4 +1,5 @@
 -- Laws of a cursor's moves. Assumes nothing.
+use Rattle.std.specs.Prelude.{Err, Ok}
 use Rattle.std.proofs.Common.{◌≡◌, ℕ, zero, suc, ◌+◌, ◌-◌, ◌%◌, ◌<◌, ◌≤◌, Bool, true, false, leb, List, length, sym, refl, ap, ◌∙◌, add-zero, le_of_lt, mod-lt, mod-eq_of_lt, add-sub_of_le, sub-eq-zero_of_le, arith, lit<, le-leb, leb-false, leb-true}
 use native.Mathlib.Nat.{mod_self, zero-mod, add-mod, add-mod-mod, mod-add-mod, sub-zero}
 use borrow.Author.Tests.{lt-leb}
@@ -7,20 +8,11 @@ use Rattle.wire.specs.declared.settings.Version.{Version}
 use Rattle.wire.specs.declared.settings.Version.TheVariants.{Xcdr1, Xcdr2}
 use Rattle.wire.specs.declared.cursor.Cursor.{Cursor}
 use Rattle.wire.specs.declared.cursor.Shortage.{Shortage}
-use Rattle.wire.specs.declared.cursor.Place.{Place}
-use Rattle.wire.specs.declared.cursor.Place.TheVariants.{At, Short}
+use Rattle.wire.specs.Place.{Place}
 
 pub alignment_own : (v : Version) (n : ℕ) → v ≡ Xcdr1 → n ≡ alignment_of v n
 unfolding alignment_of
 alignment_own v n e = rw e
-
-pub alignment_small : (v : Version) (n : ℕ) → v ≡ Xcdr2 → n ≤ 4 → n ≡ alignment_of v n
-unfolding alignment_of
-alignment_small v n e h = rw e (omega arith)
-
-pub alignment_cap : (v : Version) (n : ℕ) → v ≡ Xcdr2 → 4 < n → 4 ≡ alignment_of v n
-unfolding alignment_of
-alignment_cap v n e h = rw e (omega arith)
 
 -- what has a size has an alignment
 pub alignment_some : (v : Version) (n a : ℕ) → 0 < n → a ≡ alignment_of v n → 0 < a
@@ -98,32 +90,32 @@ module _ (c : Cursor) (a : ℕ) (some : 0 < a) (after : c.origin ≤ c.pos) wher
       rw (k, z, sub-zero, mod_self a)
 
 module _ (s : List ℕ) (c : Cursor) (n : ℕ) where
-  pub seek_at : c.pos + n ≤ length s → At (moved c n) ≡ seek_to s c n
+  pub seek_at : c.pos + n ≤ length s → Ok (moved c n) ≡ seek_to s c n
   unfolding seek_to
   seek_at h = rw (le-leb _ _ h)
 
-  pub seek_short : length s < c.pos + n → Short (short_at s c n) ≡ seek_to s c n
+  pub seek_short : length s < c.pos + n → Err (short_at s c n) ≡ seek_to s c n
   unfolding seek_to
   seek_short h = rw (lt-leb _ _ h)
 
   -- .. with the need as it was worked out
-  pub seek_lacks : (k : ℕ) → length s < c.pos + n → k ≡ need_at s c.pos n → Short (shortage c c.pos k) ≡ seek_to s c n
+  pub seek_lacks : (k : ℕ) → length s < c.pos + n → k ≡ need_at s c.pos n → Err (shortage c c.pos k) ≡ seek_to s c n
   seek_lacks k h e = rw e (seek_short h)
 
 -- two constructors are never equal
-apart : (x : Shortage) (d : Cursor) → Short x ≡ At d → ⊥
+apart : (x : Shortage) (d : Cursor) → Err x ≡ Ok d → ⊥
 apart x d e = let z : ◌≡◌ {A = ℕ} 0 1 = cc in omega arith
 
 -- what a finished seek tells: the bytes were there, and the cursor is past them
-pub seek_inv : (s : List ℕ) (c : Cursor) (n : ℕ) (d : Cursor) → seek_to s c n ≡ At d → (c.pos + n ≤ length s) × (moved c n ≡ d)
+pub seek_inv : (s : List ℕ) (c : Cursor) (n : ℕ) (d : Cursor) → seek_to s c n ≡ Ok d → (c.pos + n ≤ length s) × (moved c n ≡ d)
 seek_inv s c n d e = go (leb (c.pos + n) (length s)) refl
   where
     go : (t : Bool) → leb (c.pos + n) (length s) ≡ t → (c.pos + n ≤ length s) × (moved c n ≡ d)
-    go true h = (leb-true _ _ h, (let f : At (moved c n) ≡ At d = seek_at s c n (leb-true _ _ h) ∙ e in cc))
+    go true h = (leb-true _ _ h, (let f : (Ok (moved c n)) ≡ (Ok d) = seek_at s c n (leb-true _ _ h) ∙ e in cc))
     go false h = absurd (apart (short_at s c n) d (seek_short s c n (leb-false _ _ h) ∙ e))
 
 -- a finished alignment moves on, not past the end, and keeps the origin
-pub align_inv : (s : List ℕ) (v : Version) (c : Cursor) (size : ℕ) (d : Cursor) → align_to s v c size ≡ At d → (c.pos ≤ d.pos) × (d.pos ≤ length s) × (d.origin ≡ c.origin)
+pub align_inv : (s : List ℕ) (v : Version) (c : Cursor) (size : ℕ) (d : Cursor) → align_to s v c size ≡ Ok d → (c.pos ≤ d.pos) × (d.pos ≤ length s) × (d.origin ≡ c.origin)
 unfolding align_to
 align_inv s v c size d f =
     let k = seek_inv s c (padding_of c (alignment_of v size)) d f in
@@ -141,15 +133,15 @@ aligned_none c a h = go (leb c.origin c.pos) refl
         sym (padding_none (moved c (padding_of c a)) a (omega arith))
 
 -- where no padding is, the alignment stays; and where it stays, none is
-pub align_stays : (s : List ℕ) (v : Version) (d : Cursor) (size : ℕ) → d.pos ≤ length s → padding_of d (alignment_of v size) ≡ 0 → align_to s v d size ≡ At d
+pub align_stays : (s : List ℕ) (v : Version) (d : Cursor) (size : ℕ) → d.pos ≤ length s → padding_of d (alignment_of v size) ≡ 0 → align_to s v d size ≡ Ok d
 unfolding align_to
-align_stays s v d size l y = rw y (sym (seek_at s d 0 (omega arith)) ∙ ap (λ (x : ℕ). At (cursor_at x d.origin)) (add-zero d.pos))
+align_stays s v d size l y = rw y (sym (seek_at s d 0 (omega arith)) ∙ ap (λ (x : ℕ). (Ok (cursor_at x d.origin))) (add-zero d.pos))
 
-pub align_stayed : (s : List ℕ) (v : Version) (d : Cursor) (size : ℕ) → align_to s v d size ≡ At d → padding_of d (alignment_of v size) ≡ 0
+pub align_stayed : (s : List ℕ) (v : Version) (d : Cursor) (size : ℕ) → align_to s v d size ≡ Ok d → padding_of d (alignment_of v size) ≡ 0
 unfolding align_to
 align_stayed s v d size f = let k = seek_inv s d (padding_of d (alignment_of v size)) d f in omega (arith, ap (λ (x : Cursor). x.pos) k.1)
 
-pub align_twice : (s : List ℕ) (v : Version) (c : Cursor) (size : ℕ) (d : Cursor) → 0 < size → align_to s v c size ≡ At d → align_to s v d size ≡ At d
+pub align_twice : (s : List ℕ) (v : Version) (c : Cursor) (size : ℕ) (d : Cursor) → 0 < size → align_to s v c size ≡ Ok d → align_to s v d size ≡ Ok d
 unfolding align_to
 align_twice s v c size d h f =
     let a : ℕ = alignment_of v size in
@@ -161,16 +153,16 @@ align_twice s v c size d h f =
 
 -- what follows a move, by how it went
 module _ {A : Type 0} (short : Shortage → A) (next : Cursor → A) {p : Place} where
-  pub after_at : {c : Cursor} → p ≡ At c → after_move short p next ≡ next c
+  pub after_at : {c : Cursor} → p ≡ Ok c → after_move short p next ≡ next c
   unfolding after_move
   after_at e = rw e
 
-  pub after_short : {x : Shortage} → p ≡ Short x → after_move short p next ≡ short x
+  pub after_short : {x : Shortage} → p ≡ Err x → after_move short p next ≡ short x
   unfolding after_move
   after_short e = rw e
 
 -- what is not what a shortage gives came after a finished move
-pub move_inv : {A : Type 0} (short : Shortage → A) (a : A) → ((x : Shortage) → short x ≡ a → ⊥) → (p : Place) (next : Cursor → A) → after_move short p next ≡ a → (d : Cursor) × (p ≡ At d) × (next d ≡ a)
+pub move_inv : {A : Type 0} (short : Shortage → A) (a : A) → ((x : Shortage) → short x ≡ a → ⊥) → (p : Place) (next : Cursor → A) → after_move short p next ≡ a → (d : Cursor) × (p ≡ Ok d) × (next d ≡ a)
 unfolding after_move
-move_inv short a other (Short x) next e = absurd (other x e)
-move_inv short a other (At d) next e = (d, refl, e)
+move_inv short a other (Err x) next e = absurd (other x e)
+move_inv short a other (Ok d) next e = (d, refl, e)

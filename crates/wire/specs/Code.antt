@@ -1,3 +1,2 @@
 -- The shape of the code: no rule stands in this folder.
 pub mod Reads
-pub mod Strings

@@ -1,12 +1,14 @@
 -- Where a reading stands, and how it moves.
-use Rattle.std.specs.Prelude.{ℕ, ◌+◌, ◌-◌, ◌%◌, ◌^◌, min, List, length, nat_le}
+use Rattle.std.specs.Prelude.{ℕ, ◌+◌, ◌-◌, ◌%◌, ◌^◌, min, List, length, nat_le, Result, Err, Ok}
 use Rattle.ground.specs.Choice.{pick}
 use Rattle.wire.specs.declared.settings.Version.{Version}
 use Rattle.wire.specs.declared.settings.Version.TheVariants.{Xcdr1, Xcdr2}
 use Rattle.wire.specs.declared.cursor.Cursor.{Cursor}
 use Rattle.wire.specs.declared.cursor.Shortage.{Shortage}
-use Rattle.wire.specs.declared.cursor.Place.{Place}
-use Rattle.wire.specs.declared.cursor.Place.TheVariants.{At, Short}
+
+-- where a move leads, or that it ran short
+abbrev pub Place : Type 0
+Place = Result Cursor Shortage
 
 abbrev pub cursor_at : ℕ → ℕ → Cursor
 cursor_at p o = record { pos = p; origin = o }
@@ -51,12 +53,12 @@ padding_of c alignment = gap_of (c.pos - c.origin) alignment
 -- past n bytes where the data has them, else short where it stands. Order 6: "any skip counts as a read from where it starts".
 -- "A position may pass the end; then even a skip of 0 is 1."
 unfoldable pub seek_to : List ℕ → Cursor → ℕ → Place
-seek_to s c n = pick (nat_le (c.pos + n) (length s)) (At (moved c n)) (Short (short_at s c n))
+seek_to s c n = pick (nat_le (c.pos + n) (length s)) (Ok (moved c n)) (Err (short_at s c n))
 
 unfoldable pub align_to : List ℕ → Version → Cursor → ℕ → Place
 align_to s v c size = seek_to s c (padding_of c (alignment_of v size))
 
 -- what follows a move; a shortage is passed on whole, in the way that the first argument says
 unfoldable pub after_move : {A : Type 0} → (Shortage → A) → Place → (Cursor → A) → A
-after_move short (Short x) next = short x
-after_move short (At c) next = next c
+after_move short (Err x) next = short x
+after_move short (Ok c) next = next c

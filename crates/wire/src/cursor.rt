@@ -1,6 +1,7 @@
 // Where a reading stands in the data, and how it moves. Nothing is required of a position, an origin or a length: each test stands
 // before the sum that it allows, so nothing wraps, past the end too.
 ghost use Rattle.std.specs.Prelude.{◌≡◌, ◌+◌, ◌-◌, ◌<◌, ◌≤◌, length};
+ghost use Rattle.wire.specs.declared.cursor.Unread.TheVariants.{Short};
 ghost use Rattle.wire.specs.Place.{cursor_at, brought_back, in_a_word, alignment_of, gap_of, padding_of, seek_to, align_to};
 
 use crate::settings::Version;
@@ -30,16 +31,23 @@ impl Shortage {
     pub fn back_to(self, c: Cursor) -> Shortage
         ensures { result ≡ brought_back self c }
     {
-        let mut x = self;
-        x.at = c;
-        x
+        Shortage { at: c, ..self }
     }
 }
 
+// Why a value is not read: the data has too few bytes, or bytes that no such value has.
 #[derive(Clone, Copy)]
-pub enum Place {
-    At(Cursor),
+pub enum Unread {
     Short(Shortage),
+    Bad,
+}
+
+impl From<Shortage> for Unread {
+    ghost from_gives = { λ x e. e ≡ Short x };
+
+    fn from(x: Shortage) -> Unread {
+        Unread::Short(x)
+    }
 }
 
 impl Cursor {
@@ -57,30 +65,22 @@ impl Cursor {
         requires { 0 < alignment }
         ensures { result ≡ padding_of self alignment }
     {
-        let pos = self.pos;
-        let origin = self.origin;
-        if pos < origin {
-            return 0;
-        }
-        gap(pos - origin, alignment)
+        gap(self.pos.saturating_sub(self.origin), alignment)
     }
 
     // Past a block of n bytes. A block's bytes stay in the data, so the Rust's read_bytes is this too.
-    pub fn seek(self, s: &[u8], n: usize) -> Place
+    pub fn seek(self, s: &[u8], n: usize) -> Result<Cursor, Shortage>
         ensures { result ≡ seek_to s.now self n }
     {
-        let pos = self.pos;
-        let origin = self.origin;
-        let end = s.len();
-        let need = lack(pos, n, end);
+        let need = lack(self.pos, n, s.len());
         if 0 < need {
             let told = Told {
-                position: pos,
+                position: self.pos,
                 need,
             };
-            return Place::Short(Shortage { at: self, told });
+            return Err(Shortage { at: self, told });
         }
-        Place::At(Cursor::new(pos + n, origin))
+        Ok(Cursor::new(self.pos + n, self.origin))
     }
 
     // Where a number of `size` bytes stands, if the data has all of it; the caller asks whether it does. A position alone goes by register.
@@ -101,7 +101,7 @@ impl Cursor {
     }
 
     // To where a number of `size` bytes may stand.
-    pub fn align(self, s: &[u8], version: Version, size: usize) -> Place
+    pub fn align(self, s: &[u8], version: Version, size: usize) -> Result<Cursor, Shortage>
         requires { 0 < size }
         ensures { result ≡ align_to s.now version self size }
     {
@@ -111,23 +111,15 @@ impl Cursor {
     }
 }
 
-// The most that a word holds.
-const MOST: usize = 18446744073709551615;
-
 // The bytes of n from `pos` on that the data of so many lacks, or the most that a word holds: 0 where it has them all.
 fn lack(pos: usize, n: usize, end: usize) -> usize
     ensures { result ≡ in_a_word (pos + n - end) }
 {
     if end < pos {
-        if MOST - (pos - end) < n {
-            return MOST;
-        }
-        return pos - end + n;
+        (pos - end).saturating_add(n)
+    } else {
+        n.saturating_sub(end - pos)
     }
-    if end - pos < n {
-        return n - (end - pos);
-    }
-    0
 }
 
 fn alignment_of(version: Version, size: usize) -> usize
@@ -135,13 +127,7 @@ fn alignment_of(version: Version, size: usize) -> usize
 {
     match version {
         Version::Xcdr1 => size,
-        Version::Xcdr2 => {
-            if Cursor::CAP < size {
-                Cursor::CAP
-            } else {
-                size
-            }
-        }
+        Version::Xcdr2 => size.min(Cursor::CAP),
     }
 }
 

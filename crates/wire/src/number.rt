@@ -1,45 +1,22 @@
 // Numbers in the data. Each is aligned to its own size, then its bytes are read in the settings' byte order; what ran short keeps the
 // position reached.
-ghost use Rattle.std.specs.Prelude.{◌≡◌, ◌+◌, ◌*◌, ◌^◌, ◌<◌, ◌≤◌, length};
+ghost use Rattle.std.specs.Prelude.{◌≡◌, ◌+◌, ◌^◌, ◌<◌, ◌≤◌, length};
 ghost use Rattle.wire.specs.Number.{number_at, boolean_in, read_float128, float128_here, read_boolean};
-ghost use Rattle.wire.specs.Code.Reads.{turned, ReadIs, HereIs};
+ghost use Rattle.wire.specs.Code.Reads.{ReadIs, HereIs};
 
-use crate::cursor::{Cursor, Place, Shortage};
-use crate::settings::{ByteOrder, Settings};
+use crate::cursor::{Cursor, Shortage, Unread};
+use crate::reader::Reader;
+use crate::settings::ByteOrder;
 use kinds::names::{BOOLEAN, FLOAT128};
-
-#[derive(Clone, Copy)]
-pub enum Number {
-    Got(u64, Cursor),
-    Short(Shortage),
-}
-
-// The low half of the number, then the high half.
-#[derive(Clone, Copy)]
-pub enum Float128 {
-    Got(u64, u64, Cursor),
-    Short(Shortage),
-}
-
-#[derive(Clone, Copy)]
-pub enum Boolean {
-    Got(bool, Cursor),
-    Bad,
-    Short(Shortage),
-}
 
 // The number that `width` bytes from `pos` spell, the first byte the highest.
 fn from_be_bytes(s: &[u8], pos: usize, width: usize) -> u64
     requires { (pos + width ≤ length s.now) × (width ≤ 8) }
     ensures { (result ≡ number_at ByteOrder.BigEndian 0 s.now pos width) × (result < 256 ^ width) }
 {
-    let mut v: u64 = 0;
-    let mut p = pos;
-    let mut left = width;
-    while 0 < left {
-        v = v * 256 + ground::wide(s[p]);
-        p += 1;
-        left -= 1;
+    let mut v = 0;
+    for x in &s[pos..pos + width] {
+        v = v * 256 + u64::from(*x);
     }
     v
 }
@@ -49,11 +26,9 @@ fn from_le_bytes(s: &[u8], pos: usize, width: usize) -> u64
     requires { (pos + width ≤ length s.now) × (width ≤ 8) }
     ensures { (result ≡ number_at ByteOrder.LittleEndian 0 s.now pos width) × (result < 256 ^ width) }
 {
-    let mut v: u64 = 0;
-    let mut left = width;
-    while 0 < left {
-        left -= 1;
-        v = v * 256 + ground::wide(s[pos + left]);
+    let mut v = 0;
+    for last in s[pos..pos + width].iter().rev() {
+        v = v * 256 + u64::from(*last);
     }
     v
 }
@@ -69,75 +44,14 @@ fn from_each_byte(s: &[u8], order: ByteOrder, pos: usize, width: usize) -> u64
     }
 }
 
-// The number of two bytes, the first the higher.
-pub fn two(a: u8, b: u8) -> u64
-    ensures { (result ≡ a * 256 + b) × (result < 256 ^ 2) × (a < 256) × (b < 256) }
-{
-    ground::wide(a) * 0x100 + ground::wide(b)
-}
-
-// The number of four bytes, the first the highest. It is one load of the machine's where the bytes are added up in this way.
-pub fn four(a: u8, b: u8, c: u8, d: u8) -> u64
-    ensures { (result ≡ ((a * 256 + b) * 256 + c) * 256 + d) × (result < 256 ^ 4) × (a < 256) × (b < 256) × (c < 256) × (d < 256) }
-{
-    ground::wide(a) * 0x100_0000
-        + ground::wide(b) * 0x1_0000
-        + ground::wide(c) * 0x100
-        + ground::wide(d)
-}
-
-// Two, four or eight bytes, the last the highest. Apart from what is then done with them, the compiler knows them as one load.
-fn two_here(s: &[u8], p: usize) -> u64
-    requires { p + 2 ≤ length s.now }
-    ensures { (result ≡ number_at ByteOrder.LittleEndian 0 s.now p 2) × (result < 256 ^ 2) }
-{
-    two(s[p + 1], s[p])
-}
-
-fn four_here(s: &[u8], p: usize) -> u64
-    requires { p + 4 ≤ length s.now }
-    ensures { (result ≡ number_at ByteOrder.LittleEndian 0 s.now p 4) × (result < 256 ^ 4) }
-{
-    four(s[p + 3], s[p + 2], s[p + 1], s[p])
-}
-
-fn eight_here(s: &[u8], p: usize) -> u64
-    requires { p + 8 ≤ length s.now }
-    ensures { (result ≡ number_at ByteOrder.LittleEndian 0 s.now p 8) × (result < 256 ^ 8) }
-{
-    four_here(s, p) + four_here(s, p + 4) * 0x1_0000_0000
-}
-
-// The same bytes in the other order, which is one instruction of the machine's.
-fn turned_two(v: u64) -> u64
-    ensures { (result ≡ turned 2 v) × (result < 256 ^ 2) }
-{
-    v % 0x100 * 0x100 + v / 0x100 % 0x100
-}
-
-fn turned_four(v: u64) -> u64
-    ensures { (result ≡ turned 4 v) × (result < 256 ^ 4) }
-{
-    v % 0x100 * 0x100_0000
-        + v / 0x100 % 0x100 * 0x1_0000
-        + v / 0x1_0000 % 0x100 * 0x100
-        + v / 0x100_0000 % 0x100
-}
-
-fn turned_eight(v: u64) -> u64
-    ensures { (result ≡ turned 8 v) × (result < 256 ^ 8) }
-{
-    turned_four(v) * 0x1_0000_0000 + turned_four(v / 0x1_0000_0000)
-}
-
 fn two_bytes(s: &[u8], order: ByteOrder, p: usize) -> u64
     requires { p + 2 ≤ length s.now }
     ensures { (result ≡ number_at order 0 s.now p 2) × (result < 256 ^ 2) }
 {
-    let v = two_here(s, p);
+    let bytes = [s[p], s[p + 1]];
     match order {
-        ByteOrder::BigEndian => turned_two(v),
-        ByteOrder::LittleEndian => v,
+        ByteOrder::BigEndian => u64::from(u16::from_be_bytes(bytes)),
+        ByteOrder::LittleEndian => u64::from(u16::from_le_bytes(bytes)),
     }
 }
 
@@ -145,10 +59,10 @@ fn four_bytes(s: &[u8], order: ByteOrder, p: usize) -> u64
     requires { p + 4 ≤ length s.now }
     ensures { (result ≡ number_at order 0 s.now p 4) × (result < 256 ^ 4) }
 {
-    let v = four_here(s, p);
+    let bytes = [s[p], s[p + 1], s[p + 2], s[p + 3]];
     match order {
-        ByteOrder::BigEndian => turned_four(v),
-        ByteOrder::LittleEndian => v,
+        ByteOrder::BigEndian => u64::from(u32::from_be_bytes(bytes)),
+        ByteOrder::LittleEndian => u64::from(u32::from_le_bytes(bytes)),
     }
 }
 
@@ -156,10 +70,19 @@ fn eight_bytes(s: &[u8], order: ByteOrder, p: usize) -> u64
     requires { p + 8 ≤ length s.now }
     ensures { (result ≡ number_at order 0 s.now p 8) × (result < 256 ^ 8) }
 {
-    let v = eight_here(s, p);
+    let bytes = [
+        s[p],
+        s[p + 1],
+        s[p + 2],
+        s[p + 3],
+        s[p + 4],
+        s[p + 5],
+        s[p + 6],
+        s[p + 7],
+    ];
     match order {
-        ByteOrder::BigEndian => turned_eight(v),
-        ByteOrder::LittleEndian => v,
+        ByteOrder::BigEndian => u64::from_be_bytes(bytes),
+        ByteOrder::LittleEndian => u64::from_le_bytes(bytes),
     }
 }
 
@@ -176,88 +99,68 @@ pub fn from_bytes(s: &[u8], order: ByteOrder, pos: usize, width: usize) -> u64
     }
 }
 
-// The number where the cursor stands.
-fn number_here(s: &[u8], order: ByteOrder, at: Cursor, width: usize) -> Number
-    requires { width ≤ 8 }
-    ensures { HereIs s.now order at width result }
-{
-    let pos = at.pos;
-    let past = at.seek(s, width);
-    match past {
-        Place::Short(x) => Number::Short(x),
-        Place::At(c) => Number::Got(from_bytes(s, order, pos, width), c),
-    }
-}
-
-// Serialization rule 2: a primitive of `width` bytes. Most are there whole, and then one test settles the alignment and the bytes.
-pub fn read_number(s: &[u8], set: Settings, at: Cursor, width: usize) -> Number
-    requires { (0 < width) × (width ≤ 8) }
-    ensures { ReadIs s.now set at width result }
-{
-    let version = set.version;
-    let order = set.order;
-    let q = at.start(s, version, width);
-    if q + width <= s.len() {
-        return Number::Got(
-            from_bytes(s, order, q, width),
-            Cursor::new(q + width, at.origin),
-        );
-    }
-    match at.align(s, version, width) {
-        Place::Short(x) => Number::Short(x),
-        Place::At(c) => number_here(s, order, c, width),
-    }
-}
-
-// The 16 bytes where the cursor stands, in one read.
-fn float128_here(s: &[u8], order: ByteOrder, at: Cursor) -> Float128
-    ensures { result ≡ float128_here s.now order at }
-{
-    let pos = at.pos;
-    let past = at.seek(s, 16);
-    match past {
-        Place::Short(x) => Float128::Short(x),
-        Place::At(c) => {
-            let first = from_bytes(s, order, pos, 8);
-            let second = from_bytes(s, order, pos + 8, 8);
-            match order {
-                ByteOrder::BigEndian => Float128::Got(second, first, c),
-                ByteOrder::LittleEndian => Float128::Got(first, second, c),
-            }
-        }
-    }
-}
-
-pub fn read_float128(s: &[u8], set: Settings, at: Cursor) -> Float128
-    ensures { result ≡ read_float128 s.now set at }
-{
-    let version = set.version;
-    let order = set.order;
-    let alignment = kinds::align_of(FLOAT128) as usize;
-    let place = at.align(s, version, alignment);
-    match place {
-        Place::Short(x) => Float128::Short(x),
-        Place::At(c) => float128_here(s, order, c),
-    }
-}
-
-fn boolean_in(v: u64, c: Cursor) -> Boolean
+fn boolean_in(v: u64, c: Cursor) -> Result<(bool, Cursor), Unread>
     ensures { result ≡ boolean_in v c }
 {
     match v {
-        0 => Boolean::Got(false, c),
-        1 => Boolean::Got(true, c),
-        _ => Boolean::Bad,
+        0 => Ok((false, c)),
+        1 => Ok((true, c)),
+        _ => Err(Unread::Bad),
     }
 }
 
-pub fn read_boolean(s: &[u8], set: Settings, at: Cursor) -> Boolean
-    ensures { result ≡ read_boolean s.now set at }
-{
-    let width = kinds::align_of(BOOLEAN) as usize;
-    let byte = read_number(s, set, at, width);
-    match byte {
-        Number::Short(x) => Boolean::Short(x),
-        Number::Got(v, c) => boolean_in(v, c),
+impl<'a> Reader<'a> {
+    // The number where the cursor stands.
+    fn number_here(self, at: Cursor, width: usize) -> Result<(u64, Cursor), Shortage>
+        requires { width ≤ 8 }
+        ensures { HereIs self.entry.bytes.now self.entry.set.order at width result }
+    {
+        let past = at.seek(self.bytes, width)?;
+        Ok((from_bytes(self.bytes, self.set.order, at.pos, width), past))
+    }
+
+    // Serialization rule 2: a primitive of `width` bytes. Most are there whole, and then one test settles the alignment and the bytes.
+    pub fn read_number(self, at: Cursor, width: usize) -> Result<(u64, Cursor), Shortage>
+        requires { (0 < width) × (width ≤ 8) }
+        ensures { ReadIs self.entry.bytes.now self.entry.set at width result }
+    {
+        let q = at.start(self.bytes, self.set.version, width);
+        if q + width <= self.bytes.len() {
+            return Ok((
+                from_bytes(self.bytes, self.set.order, q, width),
+                Cursor::new(q + width, at.origin),
+            ));
+        }
+        let c = at.align(self.bytes, self.set.version, width)?;
+        self.number_here(c, width)
+    }
+
+    // The 16 bytes where the cursor stands, in one read: the low half of the number, then the high half.
+    fn float128_here(self, at: Cursor) -> Result<(u64, u64, Cursor), Shortage>
+        ensures { result ≡ float128_here self.entry.bytes.now self.entry.set.order at }
+    {
+        let past = at.seek(self.bytes, 16)?;
+        let first = from_bytes(self.bytes, self.set.order, at.pos, 8);
+        let second = from_bytes(self.bytes, self.set.order, at.pos + 8, 8);
+        match self.set.order {
+            ByteOrder::BigEndian => Ok((second, first, past)),
+            ByteOrder::LittleEndian => Ok((first, second, past)),
+        }
+    }
+
+    pub fn read_float128(self, at: Cursor) -> Result<(u64, u64, Cursor), Shortage>
+        ensures { result ≡ read_float128 self.entry.bytes.now self.entry.set at }
+    {
+        let alignment = usize::from(kinds::align_of(FLOAT128));
+        let c = at.align(self.bytes, self.set.version, alignment)?;
+        self.float128_here(c)
+    }
+
+    pub fn read_boolean(self, at: Cursor) -> Result<(bool, Cursor), Unread>
+        ensures { result ≡ read_boolean self.entry.bytes.now self.entry.set at }
+    {
+        let width = usize::from(kinds::align_of(BOOLEAN));
+        let (v, c) = self.read_number(at, width)?;
+        boolean_in(v, c)
     }
 }

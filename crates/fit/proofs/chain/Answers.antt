@@ -3,26 +3,11 @@ use borrow.Author.Rules.{rules}
 use Rattle.fit.proofs.Measuring.{Chain-laws}
 use Rattle.fit.proofs.chain.Goals as goal
 
-pub clauses_met-requires : goal.clauses_met-requires
-clauses_met-requires c = search (rules, Chain-laws)
-
 pub returns-then-not-clauses_met : goal.returns-then-not-clauses_met
 returns-then-not-clauses_met c = search (rules, Chain-laws)
 
-pub longest-m-requires : goal.longest-m-requires
-longest-m-requires c = search (rules, Chain-laws)
-
 pub returns-then-m-gt-LONGEST : goal.returns-then-m-gt-LONGEST
 returns-then-m-gt-LONGEST c = search (rules, Chain-laws)
-
-pub kind_at-requires : goal.kind_at-requires
-kind_at-requires c = search (rules, Chain-laws)
-
-pub opens-requires : goal.opens-requires
-opens-requires c = search (rules, Chain-laws)
-
-pub overflow_add-result : goal.overflow_add-result
-overflow_add-result c = search (rules, Chain-laws)
 
 pub returns-then-opens : goal.returns-then-opens
 returns-then-opens c = search (rules, Chain-laws)

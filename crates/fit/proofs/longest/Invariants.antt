@@ -5,8 +5,5 @@ use Rattle.fit.specs.Fit.{member_types, links_of}
 use Rattle.fit.specs.Code.Check.{longest_from}
 use Rattle.fit.proofs.longest.Given as goal
 
-abbrev pub invariant-loop-ms : goal.invariant-loop-ms
-invariant-loop-ms l = longest_from l.lower l.m (member_types (listed l.book l.ms)) ≡ longest_from l.lower 0 (links_of (type_at l.book l.at))
-
-abbrev pub decreases-loop-ms : goal.decreases-loop-ms
-decreases-loop-ms l = l.ms.left
+abbrev pub invariant-loop-p : goal.invariant-loop-p
+invariant-loop-p l = longest_from l.lower l.m (member_types (listed l.book l.p-iterator)) ≡ longest_from l.lower 0 (links_of (type_at l.book l.at))

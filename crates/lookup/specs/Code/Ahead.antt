@@ -1,27 +1,20 @@
 -- The member that comes next: in the order of their ids a member's header stands after the last one that was found, so it is asked there
 -- first. What is answered is what the search from the structure's start would find.
-use Rattle.std.specs.Prelude.{ℕ, zero, suc, ◌+◌, ◌-◌, ◌%◌, ◌≤◌, ◌<◌, ◌^◌, ◌≡◌, Bool, List, length}
+use Rattle.std.specs.Prelude.{ℕ, ◌+◌, ◌-◌, ◌%◌, ◌≤◌, ◌<◌, ◌^◌, ◌≡◌, Bool, List, length, Option, None, Some, Result, Err, Ok}
 use Rattle.ground.specs.Choice.{pick}
-use Rattle.wire.specs.Place.{cursor_at, align_to}
-use Rattle.wire.specs.declared.cursor.Place.{Place}
-use Rattle.wire.specs.declared.cursor.Place.TheVariants as place
+use Rattle.wire.specs.Place.{Place, cursor_at, align_to}
 use Rattle.wire.specs.Number.{number_at}
 use Rattle.wire.specs.declared.settings.Settings.{Settings}
 use Rattle.wire.specs.declared.settings.Version.{Version}
 use Rattle.wire.specs.declared.settings.Version.TheVariants.{Xcdr1, Xcdr2}
 use Rattle.wire.specs.declared.cursor.Cursor.{Cursor}
-use Rattle.lookup.specs.Search.{past_value}
+use Rattle.wire.specs.declared.cursor.Shortage.{Shortage}
+use Rattle.lookup.specs.Search.{Seek, past_value}
 use Rattle.lookup.specs.Xcdr1 as xcdr1
 use Rattle.lookup.specs.Xcdr2 as xcdr2
-use Rattle.lookup.specs.declared.search.Seek.{Seek}
-use Rattle.lookup.specs.declared.search.Seek.TheVariants.{Found}
-use Rattle.lookup.specs.declared.search.Turn.TheVariants.{On}
 use Rattle.lookup.specs.declared.ahead.Ahead.{Ahead}
 use Rattle.lookup.specs.declared.ahead.Hint.{Hint}
-use Rattle.lookup.specs.declared.ahead.Start.{Start}
-use Rattle.lookup.specs.declared.ahead.Start.TheVariants as start
 use Rattle.lookup.specs.Member.{asked_for, locate}
-use Rattle.lookup.specs.declared.member.Located.TheVariants as located
 
 -- the version's own search
 unfoldable pub search_by : List ℕ → Settings → Version → ℕ → Cursor → Seek
@@ -37,6 +30,12 @@ pub record HeadAt (s : List ℕ) (pos origin : ℕ) : Type 0 where
   pub after : origin ≤ pos
   pub aligned : (pos - origin) % 4 ≡ 0
   pub inside : pos + 4 ≤ length s
+
+-- where a header may stand, if the data has its bytes
+pub record MayStand (s : List ℕ) (c : Cursor) : Type 0 where
+  pub after : c.origin ≤ c.pos
+  pub inside : c.pos ≤ length s
+  pub aligned : (c.pos - c.origin) % 4 ≡ 0
 
 -- such a place, or one so near the end of the data that no header stands there
 pub record HeadOrEnd (s : List ℕ) (pos origin : ℕ) : Type 0 where
@@ -55,15 +54,19 @@ pub record HeaderId (version : Version) (id : ℕ) : Type 0 where
   pub small : id < 2 ^ 28
   pub uncut : asked_for version id ≡ id
 
--- where the value's place is 0, nothing is said; else the search from here finds the value there, in XCDR1 it is not empty, the id is one that a header
--- has, the next header's place is told, and what the value's end comes to is far from what a word holds
-unfoldable pub AheadAt : List ℕ → Settings → ℕ → Cursor → ℕ → ℕ → ℕ → Type 0
-AheadAt s set id at n next zero = Unit {0}
-AheadAt s set id at n next (suc v) =
-    (search_by s set set.version id at ≡ Found n (cursor_at (suc v) at.origin)) × (set.version ≡ Xcdr1 → 0 < n) × HeaderId set.version id × NextIs s set id at next × (suc v + n ≤ length s + 2 ^ 36)
+-- the search from here finds the value there, in XCDR1 it is not empty, the id is one that a header has, the next header's place is told, and what the
+-- value's end comes to is far from what a word holds
+pub record AheadAt (s : List ℕ) (set : Settings) (id : ℕ) (at : Cursor) (a : Ahead) : Type 0 where
+  pub found : search_by s set set.version id at ≡ Ok (Some (a.length, cursor_at a.value at.origin))
+  pub some : set.version ≡ Xcdr1 → 0 < a.length
+  pub own : HeaderId set.version id
+  pub next : NextIs s set id at a.next
+  pub near : a.value + a.length ≤ length s + 2 ^ 36
 
-unfoldable pub AheadIs : List ℕ → Settings → ℕ → Cursor → Ahead → Type 0
-AheadIs s set id at r = AheadAt s set id at r.length r.next r.value
+-- or nothing is said
+unfoldable pub AheadIs : List ℕ → Settings → ℕ → Cursor → Option Ahead → Type 0
+AheadIs s set id at None = Unit {0}
+AheadIs s set id at (Some a) = AheadAt s set id at a
 
 -- where a found value is read, as `located_v1` and `located_v2` have it
 unfoldable pub value_at : Version → ℕ → ℕ → Cursor
@@ -79,11 +82,11 @@ pub record LongHead (s : List ℕ) (set : Settings) (emheader pos origin : ℕ) 
 
 -- a value is passed over to there, if a header stands there; the alignment to 4 is the same in both versions
 unfoldable pub PassedTo : List ℕ → Cursor → ℕ → ℕ → Type 0
-PassedTo s c n q = HeadOrEnd s q c.origin × (q + 4 ≤ length s → (set : Settings) → past_value s set c n ≡ On (cursor_at q c.origin))
+PassedTo s c n q = HeadOrEnd s q c.origin × (q + 4 ≤ length s → (set : Settings) → past_value s set c n ≡ Ok (cursor_at q c.origin))
 
 -- .. and if none does, whatever the value is passed over to is so near the end of the data too; the place is not before the value's
 unfoldable pub PassedNear : List ℕ → Cursor → ℕ → ℕ → Type 0
-PassedNear s c n q = (length s < q + 4 → (set : Settings) (y : Cursor) → past_value s set c n ≡ On y → length s < y.pos + 4) × (c.pos ≤ length s → c.pos ≤ q)
+PassedNear s c n q = (length s < q + 4 → (set : Settings) (y : Cursor) → past_value s set c n ≡ Ok y → length s < y.pos + 4) × (c.pos ≤ length s → c.pos ≤ q)
 
 -- a hint is true: for the ids from its `least` on a search from the structure's start is one from where it says, if a header stands there
 pub record TrueHint (s : List ℕ) (set : Settings) (back : Cursor) (origin : ℕ) (h : Hint) : Type 0 where
@@ -97,19 +100,23 @@ hint_at next = record { next = next; least = 0 }
 abbrev pub hint_after : Ahead → ℕ → Hint
 hint_after a id = record { next = a.next; least = id + 1 }
 
--- what the header where a hint says tells: a value's place of 0 tells nothing; else the id has 28 bits at most, the value's end is a sum that fits, and
--- where the hint is true, the lookup finds the member there, and the hint after it is true too
-pub record HeaderAhead (s : List ℕ) (set : Settings) (id : ℕ) (h : Hint) (origin : ℕ) (r : Ahead) : Type 0 where
-  pub small : 0 < r.value → id < 2 ^ 28
-  pub near : 0 < r.value → r.value + r.length ≤ length s + 2 ^ 36
-  pub found : (back : Cursor) → align_to s set.version back 4 ≡ place.At back → TrueHint s set back origin h → 0 < r.value → locate s set id back ≡ located.Found r.length (value_at set.version r.value origin) back
-  pub on : (back : Cursor) → TrueHint s set back origin h → 0 < r.value → TrueHint s set back origin (hint_after r id)
+-- what the header where a hint says tells, if anything: the id has 28 bits at most, the value's end is a sum that fits, and where the hint is true, the
+-- lookup finds the member there, and the hint after it is true too
+pub record HeaderAhead (s : List ℕ) (set : Settings) (id : ℕ) (h : Hint) (origin : ℕ) (r : Option Ahead) : Type 0 where
+  pub small : (a : Ahead) → r ≡ Some a → id < 2 ^ 28
+  pub near : (a : Ahead) → r ≡ Some a → a.value + a.length ≤ length s + 2 ^ 36
+  pub found : (back : Cursor) → align_to s set.version back 4 ≡ Ok back → TrueHint s set back origin h → (a : Ahead) → r ≡ Some a → locate s set id back ≡ Ok (Some (a.length, value_at set.version a.value origin), back)
+  pub on : (back : Cursor) → TrueHint s set back origin h → (a : Ahead) → r ≡ Some a → TrueHint s set back origin (hint_after a id)
 
 -- where the lookups of a structure come back to: the first one's alignment, as `locate` has it; a structure without members has none
 unfoldable pub first_lookup : List ℕ → Settings → Bool → Cursor → Place
-first_lookup s set some c = pick some (align_to s set.version c 4) (place.At c)
+first_lookup s set some c = pick some (align_to s set.version c 4) (Ok c)
+
+-- that place, and the hint before any member was found; or that it ran short
+abbrev pub Start : Type 0
+Start = Result (Cursor × Hint) Shortage
 
 -- what is told of it: that place, with a hint that is true; or that it ran short
 unfoldable pub StartIs : List ℕ → Settings → Bool → Cursor → Start → Type 0
-StartIs s set some c (start.Short x) = first_lookup s set some c ≡ place.Short x
-StartIs s set some c (start.From back h) = (first_lookup s set some c ≡ place.At back) × TrueHint s set back back.origin h
+StartIs s set some c (Err x) = first_lookup s set some c ≡ Err x
+StartIs s set some c (Ok (back, h)) = (first_lookup s set some c ≡ Ok back) × TrueHint s set back back.origin h

@@ -1,16 +1,15 @@
 -- The lookup from header to header, by their places alone: what a place tells of the search.
-use Rattle.std.specs.Prelude.{ℕ, ◌+◌, ◌≤◌, ◌<◌, ◌^◌, ◌≡◌, true, List, length}
+use Rattle.std.specs.Prelude.{ℕ, ◌+◌, ◌≤◌, ◌<◌, ◌^◌, ◌≡◌, List, length, Some, None, Ok}
 use Rattle.wire.specs.Place.{cursor_at}
 use Rattle.wire.specs.declared.settings.Settings.{Settings}
 use Rattle.wire.specs.declared.settings.Version.{Version}
 use Rattle.wire.specs.declared.settings.Version.TheVariants.{Xcdr1, Xcdr2}
 use Rattle.wire.specs.declared.cursor.Cursor.{Cursor}
-use Rattle.lookup.specs.Member.{located_v1, located_v2, locate}
-use Rattle.lookup.specs.Code.Ahead.{search_by, HeadOrEnd, value_at}
-use Rattle.lookup.specs.declared.search.Seek.{Seek}
-use Rattle.lookup.specs.declared.member.Located.{Located}
-use Rattle.lookup.specs.declared.member.Located.TheVariants.{Found, Absent}
+use Rattle.lookup.specs.Member.{Located, located_v1, located_v2, locate}
+use Rattle.lookup.specs.Code.Ahead.{search_by, HeadAt, HeadOrEnd, value_at}
+use Rattle.lookup.specs.Search.{Seek}
 use Rattle.lookup.specs.declared.straight.Sought.{Sought}
+use Rattle.lookup.specs.declared.straight.Sought.TheVariants as sought
 
 -- what the version's search says of a member
 unfoldable pub located_by : Version → Seek → Cursor → Located
@@ -19,7 +18,7 @@ located_by Xcdr2 f back = located_v2 f back
 
 -- the search from here says that there is nothing to read, wherever it comes back to
 unfoldable pub Gone : List ℕ → Settings → ℕ → Cursor → Type 0
-Gone s set id at = (back : Cursor) → located_by set.version (search_by s set set.version id at) back ≡ Absent back
+Gone s set id at = (back : Cursor) → located_by set.version (search_by s set set.version id at) back ≡ Ok (None, back)
 
 -- where a header stands there, the search from here is one from there; where none does, there is nothing to read
 pub record LeadsTo (s : List ℕ) (set : Settings) (id : ℕ) (at : Cursor) (q : ℕ) : Type 0 where
@@ -35,8 +34,16 @@ Past s set own pos origin q = (pos < q) × ((id : ℕ) → (own ≡ id → ⊥) 
 unfoldable pub Stepped : List ℕ → Settings → ℕ → ℕ → ℕ → ℕ → Type 0
 Stepped s set id pos origin q = (pos ≤ q) × LeadsTo s set id (cursor_at pos origin) q
 
--- what is told of the lookup: where the value's place is not 0, it is found there, and its end is a sum that fits; and whether there is nothing to read
+-- a step may be asked of a header's place, and leads to no place before it, where a header may stand or the data ends
+abbrev pub Steps : List ℕ → ℕ → (ℕ → Type 0) → (ℕ → ℕ → Type 0) → Type 0
+Steps s origin may told = (pos : ℕ) → HeadAt s pos origin → may pos × ((q : ℕ) → told pos q → (pos ≤ q) × HeadOrEnd s q origin)
+
+-- each step is one of the search for that id
+abbrev pub StepsFor : List ℕ → Settings → ℕ → ℕ → (ℕ → ℕ → Type 0) → Type 0
+StepsFor s set id origin told = (pos q : ℕ) → HeadAt s pos origin → told pos q → Stepped s set id pos origin q
+
+-- what is told of the lookup: a value that is found is there, and its end is a sum that fits; or that there is nothing to read
 pub record SoughtIs (s : List ℕ) (set : Settings) (id : ℕ) (c : Cursor) (r : Sought) : Type 0 where
-  pub found : 0 < r.value → locate s set id c ≡ Found r.length (value_at set.version r.value c.origin) c
-  pub near : 0 < r.value → r.value + r.length ≤ length s + 2 ^ 36
-  pub absent : r.absent ≡ true → locate s set id c ≡ Absent c
+  pub found : (value n : ℕ) → r ≡ sought.Found value n → locate s set id c ≡ Ok (Some (n, value_at set.version value c.origin), c)
+  pub near : (value n : ℕ) → r ≡ sought.Found value n → value + n ≤ length s + 2 ^ 36
+  pub absent : r ≡ sought.Absent → locate s set id c ≡ Ok (None, c)

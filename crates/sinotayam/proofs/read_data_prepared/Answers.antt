@@ -1,9 +1,9 @@
-use Rattle.sinotayam.proofs.Preparing.{index_none, index_some}
+use Rattle.sinotayam.proofs.Preparing.{held_none, held_types}
 use borrow.Author.Rules.{rules}
 use Rattle.sinotayam.proofs.read_data_prepared.Goals as goal
 
-pub returns-then-n-eq0 : goal.returns-then-n-eq0
-returns-then-n-eq0 c = search (rules, index_none)
+pub returns-in_default : goal.returns-in_default
+returns-in_default c = search (rules, held_none)
 
 pub returns : goal.returns
-returns c = search (rules, index_some)
+returns c = search (rules, held_types)

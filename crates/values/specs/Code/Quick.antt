@@ -1,5 +1,5 @@
 -- The quick way of reading: what it takes is as the rules say, what it does not take it leaves alone.
-use Rattle.std.specs.Prelude.{ℕ, zero, suc, ◌+◌, ◌*◌, ◌≤◌, ◌<◌, ◌≡◌, Bool, not, List, [], ◌∷◌, length, eqb}
+use Rattle.std.specs.Prelude.{ℕ, zero, suc, ◌+◌, ◌*◌, ◌≤◌, ◌<◌, ◌≡◌, Bool, not, List, [], ◌∷◌, length, eqb, Ok}
 use Rattle.ground.specs.Choice.{both, ◌‥◌, within, among}
 use Rattle.wire.specs.declared.settings.ByteOrder.{ByteOrder}
 use Rattle.wire.specs.Place.{cursor_at}
@@ -7,7 +7,6 @@ use Rattle.wire.specs.Number.{number_at}
 use Rattle.kinds.specs.Kinds.{align_of, stored_of}
 use Rattle.table.specs.declared.rows.Row.{Row}
 use Rattle.table.specs.Rows.{row, capacity}
-use Rattle.table.specs.declared.out.Out.TheVariants.{Read}
 use Rattle.table.specs.Outcome.{Outcome}
 use Rattle.table.specs.Code.Outcome.{Done}
 use Rattle.values.specs.Scalar.{word_of}
@@ -23,7 +22,7 @@ is_taken kind = both (within (1 ‥ 16) kind) (not (among (11 ∷ 15 ∷ []) kin
 -- where the position after it is 0, nothing is done; else the value is, with k rows, and it stands there
 unfoldable pub Quickly : Outcome → ℕ → ℕ → ℕ → List ℕ → List ℕ → ℕ → Type 0
 Quickly o k n origin before after zero = after ≡ before
-Quickly o k n origin before after (suc p) = Done o n before after (Read (cursor_at (suc p) origin) (n + k))
+Quickly o k n origin before after (suc p) = Done o n before after (Ok (cursor_at (suc p) origin, n + k))
 
 -- the rows of a list's numbers from number i on, which stand one after the other from p on
 unfoldable pub rows_from : List ℕ → ByteOrder → ℕ → ℕ → ℕ → ℕ → List Row

@@ -6,4 +6,4 @@ pub returns-then-not-first : goal.returns-then-not-first
 returns-then-not-first c = search (rules, kind_unasked)
 
 pub returns : goal.returns
-returns c = kind_asked _ _ _ _ _ _ _ _ c.if-not-first.false-raw c.type_index.ensures.0 c.place.ensures.is c.kind-kind.ensures.0 c.in_range.ensures
+returns c = kind_asked _ _ _ _ _ _ _ c.if-not-first.false c.member_place.ensures.is c.kind-kind.ensures.0 c.in_range.ensures

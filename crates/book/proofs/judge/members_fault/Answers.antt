@@ -1,55 +1,34 @@
-use borrow.Author.Rules.{rules}
-use Rattle.book.proofs.Telling.{walk_turn, walk_laws}
+use mathlib.Core.Path.{refl, ◌∙◌}
+use mathlib.Core.Logic.{inl}
+use native.Mathlib.Omega.{arith}
+use Rattle.ground.proofs.Exits.{exits}
+use Rattle.book.proofs.Telling.{walk_start, walk_past, walk_bad, walk_turn, walk_end}
 use Rattle.book.proofs.judge.members_fault.Goals as goal
 
-pub members-rest-requires : goal.members-rest-requires
-members-rest-requires c = search (rules, walk_laws)
+pub loop-done-init : goal.loop-done-init
+loop-done-init c =
+    rw (c.into_iter-done-iterator.ensures.into_iter_gives, c.enumerate-done-items.ensures.source, c.enumerate-done-items.ensures.count) (walk_start _ _ _ _ _ _ c.members.ensures)
 
-pub loop-rest-init : goal.loop-rest-init
-loop-rest-init c = search (rules, walk_laws)
-
-pub label_count-requires : goal.label_count-requires
-label_count-requires c = search (rules, walk_laws)
-
-pub overflow_mul-size : goal.overflow_mul-size
-overflow_mul-size c = search (rules, walk_laws)
-
-pub overflow_add-size : goal.overflow_add-size
-overflow_add-size c = search (rules, walk_laws)
+-- the places can be counted
+pub loop-done-init-derived : goal.loop-done-init-derived
+loop-done-init-derived c = let few = (loop-done-init c).few in ((tt, tt, inl (omega (arith, few))), tt)
 
 pub returns-then-left-size : goal.returns-then-left-size
-returns-then-left-size c = search (rules, walk_laws)
+returns-then-left-size c = let s = c.in-Some.ensures.steps in walk_past _ _ _ _ _ _ _ _ _ c.loop-done.invariant _ _ s.0 _ c.label_count.ensures.0 c.if-left-size.true
 
-pub id-id-requires : goal.id-id-requires
-id-id-requires c = search (rules, walk_laws)
+pub member_fault-requires : goal.member_fault-requires
+member_fault-requires c = let s = c.in-Some.ensures.steps in (rw s.1 c.loop-done.invariant.ids, c.id-id.ensures)
 
-pub member_fault-found-requires : goal.member_fault-found-requires
-member_fault-found-requires c = search (rules, walk_laws)
+pub returns-in_err-member_fault : goal.returns-in_err-member_fault
+returns-in_err-member_fault c = let s = c.in-Some.ensures.steps in
+    exits c.from_residual.ensures.1
+    ∙ walk_bad _ _ _ _ _ _ _ _ _ c.loop-done.invariant _ _ s.0 _ c.label_count.ensures.0 c.if-left-size.false _ (rw s.1 at c.member_fault.ensures) _ c.in_err-member_fault.was
 
-pub is_right-requires : goal.is_right-requires
-is_right-requires c = search (rules, walk_laws)
-
-pub returns-then-not-is_right : goal.returns-then-not-is_right
-returns-then-not-is_right c = search (rules, walk_laws)
-
-pub above-top-requires : goal.above-top-requires
-above-top-requires c = search (rules, walk_laws)
-
-pub after-rest-requires : goal.after-rest-requires
-after-rest-requires c = search (rules, walk_laws)
-
-pub overflow_add-done : goal.overflow_add-done
-overflow_add-done c = search (rules, walk_laws)
-
-pub loop-rest-smaller : goal.loop-rest-smaller
-loop-rest-smaller c = search (rules, walk_laws)
-
-pub loop-rest-preserved : goal.loop-rest-preserved
-loop-rest-preserved c = walk_turn _ _ _ _ _ _ _ _ _ c.loop-rest.invariant _ c.loop-rest-test.true c.label_count.ensures.0 c.if-left-size.false _ c.member_fault-found.ensures _ c.is_right.ensures
-    _ _ _ c.if-not-is_right.false-raw c.id-id.ensures c.above-top.ensures c.after-rest.ensures
-
-pub returns-then-left-gt0 : goal.returns-then-left-gt0
-returns-then-left-gt0 c = search (rules, walk_laws)
+pub loop-done-preserved : goal.loop-done-preserved
+loop-done-preserved c = let s = c.in-Some.ensures.steps in
+    rw s.2
+    (walk_turn _ _ _ _ _ _ _ _ _ c.loop-done.invariant _ _ s.0 _ c.label_count.ensures.0 c.if-left-size.false _ (rw s.1 at c.member_fault.ensures) _ _ _ c.in_ok-member_fault.was c.id-id.ensures
+    (omega (arith, c.max-top.ensures), omega (arith, c.max-top.ensures, c.from.ensures)))
 
 pub returns : goal.returns
-returns c = search (rules, walk_laws)
+returns c = let s = c.in-None.ensures.steps in walk_end _ _ _ _ _ _ _ _ _ c.loop-done.invariant _ _ s.0.0 refl c.unless.ensures

@@ -2,12 +2,9 @@
 use mathlib.Core.Path.{◌≡◌}
 use Prim.Native.Nat.{◌-◌}
 use lib.ListN.{length}
-use Rattle.book.specs.Places.{from, types_by}
+use Rattle.book.specs.Places.{from, types_in}
 use Rattle.book.specs.Fault.{records_fault}
 use Rattle.book.proofs.judge.records_fault.Given as goal
 
 abbrev pub invariant-loop-k : goal.invariant-loop-k
-invariant-loop-k l = records_fault (types_by l.b l.index) l.k (length l.index - l.k) (from l.b l.p) ≡ records_fault (types_by l.b l.index) 0 (length l.index) (from l.b 7)
-
-abbrev pub decreases-loop-k : goal.decreases-loop-k
-decreases-loop-k l = length l.index - l.k
+invariant-loop-k l = records_fault (types_in l.types) l.k (length l.types.index.now - l.k) (from l.types.book.now l.p) ≡ records_fault (types_in l.types) 0 (length l.types.index.now) (from l.types.book.now 7)

@@ -2,26 +2,14 @@ use borrow.Author.Rules.{rules}
 use Rattle.book.proofs.Search.{first_bits, first_laws}
 use Rattle.book.proofs.labels.first_with.Goals as goal
 
-pub members-ms-requires : goal.members-ms-requires
-members-ms-requires c = search (rules, first_laws)
-
-pub loop-ms-init : goal.loop-ms-init
-loop-ms-init c = search (rules, first_laws)
-
-pub holds-requires : goal.holds-requires
-holds-requires c = search (rules, first_laws)
+pub loop-p-init : goal.loop-p-init
+loop-p-init c = rw (c.into_iter-p-iterator.ensures.into_iter_gives, c.members-p-items.ensures.is)
 
 pub returns-then-holds : goal.returns-then-holds
-returns-then-holds c = search (rules, first_bits, first_laws)
+returns-then-holds c = search (rules, first_bits, first_laws, c.in-Some.ensures.steps)
 
-pub after-ms-requires : goal.after-ms-requires
-after-ms-requires c = search (rules, first_laws)
-
-pub loop-ms-smaller : goal.loop-ms-smaller
-loop-ms-smaller c = search (rules, first_laws)
-
-pub loop-ms-preserved : goal.loop-ms-preserved
-loop-ms-preserved c = search (rules, first_laws)
+pub loop-p-preserved : goal.loop-p-preserved
+loop-p-preserved c = search (rules, first_laws, c.in-Some.ensures.steps)
 
 pub returns : goal.returns
-returns c = search (rules, first_bits, first_laws)
+returns c = search (rules, first_bits, first_laws, c.in-None.ensures.steps)

@@ -2,14 +2,15 @@ use Rattle.choice.proofs.Selection.{same_bits, value_default, value_first, value
 use borrow.Author.Rules.{rules}
 use Rattle.choice.proofs.select.default_value.Goals as goal
 
-pub returns-in-At : goal.returns-in-At
-returns-in-At c = search (rules, same_bits, value_default, value_first, value_zero, value_none)
+pub returns-in-Some : goal.returns-in-Some
+returns-in-Some c = search (rules, same_bits, value_default)
 
-pub returns-then-ms-gt0 : goal.returns-then-ms-gt0
-returns-then-ms-gt0 c = search (rules, same_bits, value_default, value_first, value_zero, value_none)
+pub returns-in-Some-next : goal.returns-in-Some-next
+returns-in-Some-next c =
+    same_bits _ _ (record { sfits = c.label-in-Some-next.type_inv }) (value_first _ _ _ c.kind.ensures.0 c.if-kind-eq-ENUM.true _ c.first_default.ensures c.in_default.is _ c.members-literals.ensures _ _ c.in-Some-next.ensures.steps _ c.label-in-Some-next.ensures)
 
-pub returns-else-ms-gt0 : goal.returns-else-ms-gt0
-returns-else-ms-gt0 c = search (rules, same_bits, value_default, value_first, value_zero, value_none)
+pub returns-in_default-next : goal.returns-in_default-next
+returns-in_default-next c = value_zero _ _ _ c.kind.ensures.0 c.if-kind-eq-ENUM.true _ c.first_default.ensures c.in_default.is _ c.members-literals.ensures c.in_default-next.ensures.steps.0
 
 pub returns-else-kind-eq-ENUM : goal.returns-else-kind-eq-ENUM
-returns-else-kind-eq-ENUM c = search (rules, same_bits, value_default, value_first, value_zero, value_none)
+returns-else-kind-eq-ENUM c = search (rules, value_none)

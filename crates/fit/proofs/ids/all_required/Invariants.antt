@@ -5,8 +5,5 @@ use Rattle.book.specs.Places.{listed}
 use Rattle.fit.specs.Ids.{required}
 use Rattle.fit.proofs.ids.all_required.Given as goal
 
-abbrev pub invariant-loop-rest : goal.invariant-loop-rest
-invariant-loop-rest l = every (required) (listed l.book l.rest) ≡ every (required) (listed l.book l.initial.rest)
-
-abbrev pub decreases-loop-rest : goal.decreases-loop-rest
-decreases-loop-rest l = l.rest.left
+abbrev pub invariant-loop-p : goal.invariant-loop-p
+invariant-loop-p l = every (required) (listed l.book l.p-iterator) ≡ every (required) (listed l.book l.ms)

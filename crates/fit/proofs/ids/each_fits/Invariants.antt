@@ -5,8 +5,5 @@ use Rattle.book.specs.Places.{listed}
 use Rattle.fit.specs.Ids.{id_fits}
 use Rattle.fit.proofs.ids.each_fits.Given as goal
 
-abbrev pub invariant-loop-rest : goal.invariant-loop-rest
-invariant-loop-rest l = every (id_fits l.only_xcdr2) (listed l.book l.rest) ≡ every (id_fits l.only_xcdr2) (listed l.book l.initial.rest)
-
-abbrev pub decreases-loop-rest : goal.decreases-loop-rest
-decreases-loop-rest l = l.rest.left
+abbrev pub invariant-loop-p : goal.invariant-loop-p
+invariant-loop-p l = every (id_fits l.only_xcdr2) (listed l.book l.p-iterator) ≡ every (id_fits l.only_xcdr2) (listed l.book l.ms)

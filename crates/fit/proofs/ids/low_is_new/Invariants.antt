@@ -5,8 +5,5 @@ use Rattle.book.specs.Places.{listed}
 use Rattle.fit.specs.Ids.{other_low}
 use Rattle.fit.proofs.ids.low_is_new.Given as goal
 
-abbrev pub invariant-loop-rest : goal.invariant-loop-rest
-invariant-loop-rest l = every (other_low l.wanted) (listed l.book l.rest) ≡ every (other_low l.wanted) (listed l.book l.initial.rest)
-
-abbrev pub decreases-loop-rest : goal.decreases-loop-rest
-decreases-loop-rest l = l.rest.left
+abbrev pub invariant-loop-p : goal.invariant-loop-p
+invariant-loop-p l = every (other_low l.wanted) (listed l.book l.p-iterator) ≡ every (other_low l.wanted) (listed l.book l.ms)

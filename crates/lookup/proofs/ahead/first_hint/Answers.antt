@@ -1,15 +1,9 @@
 use Rattle.lookup.proofs.Hints.{true_start, true_nowhere}
-use borrow.Author.Rules.{rules}
+use Rattle.std.proofs.Common.{refl}
 use Rattle.lookup.proofs.ahead.first_hint.Goals as goal
 
-pub returns-then-pos-origin : goal.returns-then-pos-origin
-returns-then-pos-origin c = search (rules, true_start, true_nowhere)
+pub returns-then-may_stand : goal.returns-then-may_stand
+returns-then-may_stand c = λ set. true_start _ set _ _ refl (c.may_stand.ensures.0 c.if-may_stand.true)
 
-pub returns-then-end-pos : goal.returns-then-end-pos
-returns-then-end-pos c = search (rules, true_start, true_nowhere)
-
-pub returns-then-pos-origin-ne0 : goal.returns-then-pos-origin-ne0
-returns-then-pos-origin-ne0 c = search (rules, true_start, true_nowhere)
-
-pub returns : goal.returns
-returns c = search (rules, true_start, true_nowhere)
+pub returns-else-may_stand : goal.returns-else-may_stand
+returns-else-may_stand c = λ set. true_nowhere _ set _ _ _ refl

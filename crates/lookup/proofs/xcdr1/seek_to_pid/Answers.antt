@@ -1,18 +1,11 @@
-use Rattle.lookup.specs.Xcdr1.{seek_to_pid}
-use Rattle.lookup.proofs.Turns.{rest_start, rest_done, rest_on, rest_less}
-use Rattle.lookup.proofs.Xcdr1Turns.{turn_moves}
-use borrow.Author.Rules.{rules}
+use Rattle.std.proofs.Common.{rules}
+use Rattle.lookup.specs.Xcdr1.{turn_at, seek_to_pid}
+use Rattle.lookup.proofs.Xcdr1Turns.{moves_on}
 use Rattle.lookup.proofs.xcdr1.seek_to_pid.Goals as goal
 
-pub loop-found-init : goal.loop-found-init
-loop-found-init c = search (rules, rest_start)
+pub seek_by-requires-clause-moves : goal.seek_by-requires-clause-moves
+seek_by-requires-clause-moves c = λ at d p. moves_on _ c.args.r.set c.args.pid at d (search rules)
 
-pub returns-in-Done : goal.returns-in-Done
+pub returns : goal.returns
 unfolding seek_to_pid
-returns-in-Done c = search (rules, rest_done)
-
-pub loop-found-smaller : goal.loop-found-smaller
-loop-found-smaller c = search (rules, rest_less, turn_moves)
-
-pub loop-found-preserved : goal.loop-found-preserved
-loop-found-preserved c = search (rules, rest_on, turn_moves)
+returns c = c.seek_by.ensures (turn_at c.args.r.bytes.now c.args.r.set c.args.pid) (λ at t p. search rules)

@@ -1,4 +1,4 @@
-use Rattle.sinotayam.proofs.Packing.{fault_none, fault_mul, fault_add, fault_cast, fault_word_law}
+use Rattle.sinotayam.proofs.Packing.{fault_mul, fault_add, fault_cast}
 use borrow.Author.Rules.{rules}
 use Rattle.sinotayam.proofs.c.sinotayam_fault.Goals as goal
 
@@ -10,9 +10,3 @@ overflow_add-result c = record { fits = search (rules, fault_add) }
 
 pub overflow_cast-result : goal.overflow_cast-result
 overflow_cast-result c = record { fits = search (rules, fault_cast) }
-
-pub returns-in-Nothing : goal.returns-in-Nothing
-returns-in-Nothing c = search (rules, fault_none)
-
-pub returns-in-In : goal.returns-in-In
-returns-in-In c = search (rules, fault_word_law)

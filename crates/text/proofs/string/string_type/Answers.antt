@@ -1,13 +1,12 @@
 -- `text::string::string_type` meets its contract: one law for each way through. Assumes nothing.
-use Rattle.text.proofs.Strings.{string_laws}
-use borrow.Author.Rules.{rules}
+use Rattle.std.proofs.Common.{ℕ, ◌∙◌, ap}
+use Rattle.text.specs.Text.{bytes_here}
+use Rattle.ground.proofs.Exits.{exits}
+use Rattle.text.proofs.Strings.{string_short, string_got}
 use Rattle.text.proofs.string.string_type.Goals as goal
 
-pub returns-in-Short : goal.returns-in-Short
-returns-in-Short c = search (rules, string_laws)
+pub returns-in_err-n : goal.returns-in_err-n
+returns-in_err-n c = exits c.from_residual.ensures.1 ∙ string_short _ _ _ _ c.read_number.ensures _ c.in_err-n.was
 
-pub returns-then-n-eq0 : goal.returns-then-n-eq0
-returns-then-n-eq0 c = search (rules, string_laws)
-
-pub returns-else-n-eq0 : goal.returns-else-n-eq0
-returns-else-n-eq0 c = search (rules, string_laws)
+pub returns : goal.returns
+returns c = string_got _ _ _ _ c.read_number.ensures _ _ c.in_ok-n.was _ (c.bytes_here.ensures ∙ ap (λ (k : ℕ). bytes_here c.args.r.bytes.now c.in_ok-n.c k) c.saturating_sub.ensures)

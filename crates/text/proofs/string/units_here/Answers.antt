@@ -1,51 +1,22 @@
-use borrow.Author.Rules.{rules}
-use Rattle.text.proofs.Strings.{units_laws}
+use Rattle.std.proofs.Common.{◌∙◌}
+use Rattle.ground.proofs.Exits.{exits}
+use Rattle.text.proofs.Strings.{units_start, units_short, units_turn, units_whole, units_half, units_bad}
 use Rattle.text.proofs.string.units_here.Goals as goal
 
-pub loop-left-init : goal.loop-left-init
-loop-left-init c = search (rules, units_laws)
+pub loop-init : goal.loop-init
+loop-init c = units_start _ _ _ _
 
-pub read_number-unit-requires : goal.read_number-unit-requires
-read_number-unit-requires c = search (rules, units_laws)
+pub returns-in_err-u : goal.returns-in_err-u
+returns-in_err-u c = exits c.from_residual.ensures.1 ∙ units_short _ _ _ _ _ _ _ _ c.loop.invariant c.loop-test.true _ c.read_number.ensures _ c.in_err-u.was
 
-pub enum_known-unit : goal.enum_known-unit
-enum_known-unit c = search (rules, units_laws)
-
-pub returns-in-Short : goal.returns-in-Short
-returns-in-Short c = search (rules, units_laws)
-
-pub enum_known-unit-in-Got-1 : goal.enum_known-unit-in-Got-1
-enum_known-unit-in-Got-1 c = search (rules, units_laws)
-
-pub overflow_cast-u : goal.overflow_cast-u
-overflow_cast-u c = search (rules, units_laws)
-
-pub next_unit-state-requires : goal.next_unit-state-requires
-next_unit-state-requires c = search (rules, units_laws)
-
-pub overflow_sub-left : goal.overflow_sub-left
-overflow_sub-left c = search (rules, units_laws)
-
-pub loop-left-smaller : goal.loop-left-smaller
-loop-left-smaller c = search (rules, units_laws)
-
-pub loop-left-preserved : goal.loop-left-preserved
-loop-left-preserved c = search (rules, units_laws)
-
-pub enum_told-1 : goal.enum_told-1
-enum_told-1 c = search (rules, units_laws)
-
-pub enum_told-in-Half : goal.enum_told-in-Half
-enum_told-in-Half c = search (rules, units_laws)
-
-pub enum_told-in-Bad : goal.enum_told-in-Bad
-enum_told-in-Bad c = search (rules, units_laws)
+pub loop-preserved : goal.loop-preserved
+loop-preserved c = units_turn _ _ _ _ _ _ _ _ c.loop.invariant c.loop-test.true _ c.read_number.ensures _ _ c.in_ok-u.was _ c.next_unit-state.ensures
 
 pub returns-in-Whole : goal.returns-in-Whole
-returns-in-Whole c = search (rules, units_laws)
+returns-in-Whole c = units_whole _ _ _ _ _ _ _ _ c.loop.invariant c.loop-test.false c.in-Whole.is
 
 pub returns-in-Half : goal.returns-in-Half
-returns-in-Half c = search (rules, units_laws)
+returns-in-Half c = units_half _ _ _ _ _ _ _ _ c.loop.invariant c.loop-test.false c.in-Half.is
 
 pub returns-in-Bad : goal.returns-in-Bad
-returns-in-Bad c = search (rules, units_laws)
+returns-in-Bad c = units_bad _ _ _ _ _ _ _ _ c.loop.invariant c.loop-test.false c.in-Bad.is

@@ -1,6 +1,5 @@
 -- `text::utf8::is_utf8` meets its contract: bytes below 80 are lines of the table, and of others those from each turn's place on are well-formed exactly when all of them are. Assumes nothing.
-use Prim.Native.Nat.{◌-◌}
-use lib.ListN.{length}
+use Rattle.std.proofs.Common.{◌-◌, length}
 use Rattle.text.specs.Code.Sequence.{Passed}
 use Rattle.text.proofs.utf8.is_utf8.Given as goal
 

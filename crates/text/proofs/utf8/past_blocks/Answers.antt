@@ -1,12 +1,11 @@
-use Prim.Native.Nat.{◌+◌, ◌-◌}
-use native.Mathlib.Omega.{arith}
-use borrow.Author.Rules.{rules}
-use Rattle.text.proofs.Bytes.{stays, block_passed}
+use Rattle.std.proofs.Common.{◌∙◌, sym, arith}
+use Rattle.text.proofs.Bytes.{block_passed, block_rest}
 use Rattle.text.proofs.utf8.past_blocks.Goals as goal
 
-pub loop-i-init : goal.loop-i-init
-loop-i-init c = search (rules, stays)
-
-pub loop-i-preserved : goal.loop-i-preserved
-loop-i-preserved c = let l = c.loop-i in
-    block_passed _ _ l.i l.invariant 16 (l.i + 16 - l.i) c.highest.result c.highest.ensures (omega arith) (omega arith) (omega arith)
+pub loop-block-preserved : goal.loop-block-preserved
+loop-block-preserved c =
+    let v = c.loop-block.invariant in
+    let e = c.in-Some.ensures.steps in
+    let is = sym v.1 ∙ e.1.0 in
+    let long = e.1.1 ∙ v.2 in
+    (block_passed _ _ _ v.0 _ _ is _ long _ c.highest.ensures (omega arith), block_rest _ _ _ v.0 _ _ is _ long, e.0 ∙ v.2)

@@ -1,11 +1,6 @@
--- `text::utf8::past_blocks` meets its contract: a block whose highest byte is below 80 changes nothing. Assumes nothing.
-use Prim.Native.Nat.{◌-◌}
-use lib.ListN.{length}
+use Rattle.std.proofs.Common.{◌≡◌, drop}
 use Rattle.text.specs.Code.Sequence.{Passed}
 use Rattle.text.proofs.utf8.past_blocks.Given as goal
 
-abbrev pub invariant-loop-i : goal.invariant-loop-i
-invariant-loop-i l = Passed l.s l.at l.i
-
-abbrev pub decreases-loop-i : goal.decreases-loop-i
-decreases-loop-i l = length l.s - l.i
+abbrev pub invariant-loop-block : goal.invariant-loop-block
+invariant-loop-block l = Passed l.s l.at l.i × (l.block-iterator.rest.now ≡ drop l.i l.s) × (l.block-iterator.size ≡ 16)

@@ -10,8 +10,8 @@ returns-then-count-eq0 c = search (rules, quick_empty)
 pub returns-then-not-is_number : goal.returns-then-not-is_number
 returns-then-not-is_number c = search (rules, quick_not)
 
-pub returns-then-from-origin : goal.returns-then-from-origin
-returns-then-from-origin c = search (rules, quick_not)
+pub returns-then-at : goal.returns-then-at
+returns-then-at c = search (rules, quick_not)
 
 pub align-requires : goal.align-requires
 align-requires c = search (rules, number_some)
@@ -22,8 +22,8 @@ end_of-end-requires c = search (rules, number_some, number_most)
 pub fill_by_width-requires : goal.fill_by_width-requires
 fill_by_width-requires c = (search (rules, number_yes), search rules, search rules, there_inside _ _ _ _ _ _ _ c.end_of-end.ensures c.if-end-gt0.true, there_place _ _ _ _ _ _ _ c.end_of-end.ensures c.if-end-gt0.true)
 
-pub returns-in-Short : goal.returns-in-Short
-returns-in-Short c = search (rules, quick_not)
+pub returns-in_default : goal.returns-in_default
+returns-in_default c = search (rules, quick_not)
 
 pub returns-then-end-gt0 : goal.returns-then-end-gt0
 returns-then-end-gt0 c = search (rules, number_yes, run_done)

@@ -3,14 +3,14 @@ use Rattle.values.proofs.Quickly.{quick_text, quick_not, free_fits}
 use borrow.Author.Rules.{rules}
 use Rattle.values.proofs.quick.text_at.Goals as goal
 
-pub returns-then-end-q : goal.returns-then-end-q
-returns-then-end-q c = search (rules, quick_not)
+pub returns-then-r-q : goal.returns-then-r-q
+returns-then-r-q c = search (rules, quick_not)
 
 pub returns-then-size-eq0 : goal.returns-then-size-eq0
 returns-then-size-eq0 c = search (rules, quick_not)
 
-pub returns-then-end-start : goal.returns-then-end-start
-returns-then-end-start c = search (rules, quick_not)
+pub returns-then-r-start : goal.returns-then-r-start
+returns-then-r-start c = search (rules, quick_not)
 
 pub returns-then-not-is_text : goal.returns-then-not-is_text
 returns-then-not-is_text c = search (rules, quick_not)

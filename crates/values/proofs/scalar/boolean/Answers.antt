@@ -1,12 +1,10 @@
-use Rattle.values.proofs.Scalars.{boolean_row, boolean_bad, boolean_short}
-use borrow.Author.Rules.{rules}
+use Rattle.ground.proofs.Exits.{exits}
+use Rattle.values.proofs.Scalars.{boolean_row, boolean_none}
+use Rattle.std.proofs.Common.{rules}
 use Rattle.values.proofs.scalar.boolean.Goals as goal
 
-pub returns-in-Got : goal.returns-in-Got
-returns-in-Got c = search (rules, boolean_row)
+pub returns-in_err-v : goal.returns-in_err-v
+returns-in_err-v c = rw (exits c.from_residual.ensures.1) (boolean_none _ _ _ _ _ _ _ c.read_boolean.ensures _ c.in_err-v.was)
 
-pub returns-in-Bad : goal.returns-in-Bad
-returns-in-Bad c = search (rules, boolean_row, boolean_bad)
-
-pub returns-in-Short : goal.returns-in-Short
-returns-in-Short c = search (rules, boolean_row, boolean_short)
+pub returns : goal.returns
+returns c = search (rules, boolean_row, c.in_ok-v.was)

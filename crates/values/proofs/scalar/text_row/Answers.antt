@@ -1,12 +1,10 @@
-use Rattle.values.proofs.Scalars.{text_row, text_bad, text_short}
-use borrow.Author.Rules.{rules}
+use Rattle.ground.proofs.Exits.{exits}
+use Rattle.values.proofs.Scalars.{text_row, text_none}
+use Rattle.std.proofs.Common.{rules}
 use Rattle.values.proofs.scalar.text_row.Goals as goal
 
-pub returns-in-Got : goal.returns-in-Got
-returns-in-Got c = search (rules, text_row)
+pub returns-in_err-start : goal.returns-in_err-start
+returns-in_err-start c = rw (exits c.from_residual.ensures.1) (text_none _ _ _ _ _ _ c.in_err-start.was)
 
-pub returns-in-Bad : goal.returns-in-Bad
-returns-in-Bad c = search (rules, text_row, text_bad)
-
-pub returns-in-Short : goal.returns-in-Short
-returns-in-Short c = search (rules, text_row, text_short)
+pub returns : goal.returns
+returns c = search (rules, text_row, c.in_ok-start.was)

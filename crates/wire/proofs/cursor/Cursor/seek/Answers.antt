@@ -5,8 +5,5 @@ use Rattle.wire.proofs.cursor.Cursor.seek.Goals as goal
 pub returns-then-need-gt0 : goal.returns-then-need-gt0
 returns-then-need-gt0 c = seek_lacks _ _ _ _ (omega arith) (omega arith)
 
-pub overflow_add-pos : goal.overflow_add-pos
-overflow_add-pos c = omega arith
-
 pub returns : goal.returns
 returns c = rw c.new.ensures (seek_at _ _ _ (omega arith))
