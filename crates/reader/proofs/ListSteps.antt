@@ -1,6 +1,6 @@
 -- Laws of the quick way for a list: where its elements are numbers that are there, the value is what `value_of` says. Assumes nothing.
-use Rattle.std.specs.Prelude.{Ok}
-use Prim.Native.Nat.{ℕ, zero, suc, ◌+◌, ◌≤◌, ◌<◌, ◌^◌}
+use Rattle.std.specs.Prelude.{Option, None, Some, Ok}
+use Prim.Native.Nat.{ℕ, ◌+◌, ◌≤◌, ◌<◌, ◌^◌}
 use mathlib.Core.Path.{◌≡◌, refl, sym, ap, ◌∙◌}
 use mathlib.Core.Logic.{◌⊎◌, inl, inr}
 use mathlib.Core.Bool.{Bool, true, false, not, ◌||◌, ◌&&◌}
@@ -111,11 +111,11 @@ module _ (b index s : List ℕ) (set : Settings) (ty id : ℕ) (c : Cursor) (t :
   read_own = kind ∙ sym (primitive_read (type_at b q) (rw kind at (primitive k x e h)))
 
   -- how many, and where the first stands
-  module _ (listed : Listed of) (count : ℕ) (d : Cursor) (counts : count_at s set (is_sequence (type_at b at)) (type_at b at).bound c ≡ Ok (count, d)) (u : List ℕ) (r : ℕ)
-      (taken : (bytes : Bool) → Quickly (plain_of bytes s set k id count d (room t n)) (1 + count) n d.origin t u r) (told : 0 < r → (row_at u n).b ≡ count) (nest : Nest) where
-    list_done : 0 < r → Done (value_of (types_by b index) s set nest ty id c (room t n)) n t u (Ok (cursor_at r d.origin, n + (1 + count)))
-    list_done y =
-        let o : Out = (Ok (cursor_at r d.origin, n + (1 + count))) in
+  module _ (listed : Listed of) (count : ℕ) (d : Cursor) (counts : count_at s set (is_sequence (type_at b at)) (type_at b at).bound c ≡ Ok (count, d)) (u : List ℕ) (r : Option ℕ)
+      (taken : (bytes : Bool) → Quickly (plain_of bytes s set k id count d (room t n)) (1 + count) n d.origin t u r) (told : (p : ℕ) → r ≡ Some p → (row_at u n).b ≡ count) (nest : Nest) where
+    list_done : {p : ℕ} → r ≡ Some p → Done (value_of (types_by b index) s set nest ty id c (room t n)) n t u (Ok (cursor_at p d.origin, n + (1 + count)))
+    list_done {p} y =
+        let o : Out = (Ok (cursor_at p d.origin, n + (1 + count))) in
         let w : Done (plain_of (eqb k 2 || eqb k 13) s set k id count d (room t n)) n t u o = quick_done (1 + count) r y (taken (eqb k 2 || eqb k 13)) in
         let v : Done (elements_of (types_by b index) s set nest el id count d (room t n)) n t u o =
         elements_plain b index s set nest el id d t n q k there kind count (unsupported_element k) refl (supported k x e h) (opens k) refl (unopened k x e h) k read_own u o w in
@@ -127,18 +127,17 @@ module _ (b index s : List ℕ) (set : Settings) (ty id : ℕ) (c : Cursor) (t :
     unfolding Quickly
     list_quickly f = go r refl
       where
-        go : (p : ℕ) → r ≡ p → Quickly (value_of (types_by b index) s set nest ty id c (room t n)) (1 + (row_at u n).b) n c.origin t u r
-        go zero g = rw g (quick_none _ (1 + count) n d.origin t u r (omega (arith, g)) (taken true))
-        go (suc p) g =
-            let y : 0 < r = omega (arith, g) in
-            let z : ◌≡◌ {A = Out} (Ok (cursor_at r c.origin, n + (1 + (row_at u n).b))) (Ok (cursor_at r d.origin, n + (1 + count))) =
-            ap (λ (m : ℕ). (Ok (cursor_at r m, n + (1 + (row_at u n).b)))) (sym f) ∙ ap (λ (m : ℕ). (Ok (cursor_at r d.origin, n + (1 + m)))) (told y) in
-            quick_is (1 + (row_at u n).b) r y (rw z (list_done y))
+        go : (x : Option ℕ) → r ≡ x → Quickly (value_of (types_by b index) s set nest ty id c (room t n)) (1 + (row_at u n).b) n c.origin t u x
+        go None g = quick_none _ (1 + count) n d.origin t u r g (taken true)
+        go (Some p) g =
+            let z : ◌≡◌ {A = Out} (Ok (cursor_at p c.origin, n + (1 + (row_at u n).b))) (Ok (cursor_at p d.origin, n + (1 + count))) =
+            ap (λ (m : ℕ). (Ok (cursor_at p m, n + (1 + (row_at u n).b)))) (sym f) ∙ ap (λ (m : ℕ). (Ok (cursor_at p d.origin, n + (1 + m)))) (told p g) in
+            quick_is (1 + (row_at u n).b) p (rw z (list_done g))
 
-  module _ (u : List ℕ) (r : ℕ) where
+  module _ (u : List ℕ) (r : Option ℕ) where
     -- an array has as many as its bound says
     pub list_array : of ≡ 26 → (count : ℕ) → count ≡ (type_at b at).bound
-        → ((bytes : Bool) → Quickly (plain_of bytes s set k id count c (room t n)) (1 + count) n c.origin t u r) × (0 < r → (row_at u n).b ≡ count)
+        → ((bytes : Bool) → Quickly (plain_of bytes s set k id count c (room t n)) (1 + count) n c.origin t u r) × ((p : ℕ) → r ≡ Some p → (row_at u n).b ≡ count)
         → (nest : Nest) → Quickly (value_of (types_by b index) s set nest ty id c (room t n)) (1 + (row_at u n).b) n c.origin t u r
     unfolding count_at is_sequence
     list_array g count bound z nest =
@@ -148,7 +147,7 @@ module _ (b index s : List ℕ) (set : Settings) (ty id : ℕ) (c : Cursor) (t :
     -- a sequence tells it
     pub list_sequence : (not (eqb of 25) && not (eqb of 26)) ≡ false → (of ≡ 26 → ⊥) → (p count : ℕ) (d : Cursor) → (p + 4 ≤ length s → p ≡ c.pos + padding_of c (alignment_of set.version 4)) → p + 4 ≤ length s
         → count ≡ number_at set.order 0 s p 4 → d ≡ cursor_at (p + 4) c.origin
-        → ((bytes : Bool) → Quickly (plain_of bytes s set k id count d (room t n)) (1 + count) n d.origin t u r) × (0 < r → (row_at u n).b ≡ count)
+        → ((bytes : Bool) → Quickly (plain_of bytes s set k id count d (room t n)) (1 + count) n d.origin t u r) × ((p : ℕ) → r ≡ Some p → (row_at u n).b ≡ count)
         → (nest : Nest) → Quickly (value_of (types_by b index) s set nest ty id c (room t n)) (1 + (row_at u n).b) n c.origin t u r
     unfolding count_at is_sequence
     list_sequence l y p count d starts inside is at-d z nest =
@@ -160,22 +159,22 @@ module _ (b index s : List ℕ) (set : Settings) (ty id : ℕ) (c : Cursor) (t :
         sequence true f = rw f tt
         sequence false f = absurd (apart (sym (rw (f, ne_eqb of 26 y) at l)))
 
-pub list_none : (types : List BookType) (s : List ℕ) (set : Settings) (ty id : ℕ) (c : Cursor) (t : List ℕ) (n : ℕ) (nest : Nest) → Quickly (value_of types s set nest ty id c (room t n)) (1 + (row_at t n).b) n c.origin t t 0
+pub list_none : (types : List BookType) (s : List ℕ) (set : Settings) (ty id : ℕ) (c : Cursor) (t : List ℕ) (n : ℕ) (nest : Nest) → Quickly (value_of types s set nest ty id c (room t n)) (1 + (row_at t n).b) n c.origin t t None
 list_none types s set ty id c t n nest = quick_not _ _ n c.origin t
 
 -- what the quick way took is the value; or it left all as it was
-module _ (types : List BookType) (s : List ℕ) (set : Settings) (ty id : ℕ) (c : Cursor) (t : List ℕ) (n : ℕ) (u : List ℕ) (r : ℕ)
+module _ (types : List BookType) (s : List ℕ) (set : Settings) (ty id : ℕ) (c : Cursor) (t : List ℕ) (n : ℕ) (u : List ℕ) (r : Option ℕ)
     (q : (f : Nest) → Quickly (value_of types s set f ty id c (room t n)) (1 + (row_at u n).b) n c.origin t u r) where
-  pub list_taken : 0 < r → (nest : Nest) (d : Cursor) → d ≡ cursor_at r c.origin → (y : Row) → y ≡ row_at u n → Done (value_of types s set nest ty id c (room t n)) n t u (Ok (d, n + 1 + y.b))
+  pub list_taken : {p : ℕ} → r ≡ Some p → (nest : Nest) (d : Cursor) → d ≡ cursor_at p c.origin → (y : Row) → y ≡ row_at u n → Done (value_of types s set nest ty id c (room t n)) n t u (Ok (d, n + 1 + y.b))
   list_taken h nest d e y f =
       let z : n + 1 + (row_at u n).b ≡ n + (1 + (row_at u n).b) = omega arith in
       rw (e, f, z) (quick_done (1 + (row_at u n).b) r h (q nest))
 
-  pub list_left : r ≤ 0 → (nest : Nest) (v : List ℕ) (x : Out) → Done (value_of types s set nest ty id c (room u n)) n u v x → Done (value_of types s set nest ty id c (room t n)) n t v x
+  pub list_left : r ≡ None → (nest : Nest) (v : List ℕ) (x : Out) → Done (value_of types s set nest ty id c (room u n)) n u v x → Done (value_of types s set nest ty id c (room t n)) n t v x
   list_left h nest v x d = rw (quick_none _ (1 + (row_at u n).b) n c.origin t u r h (q nest)) at d
 
   -- the rows that were written have their places
-  module _ (h : 0 < r) (long : length t < 2 ^ 64) where
+  module _ {p : ℕ} (h : r ≡ Some p) (long : length t < 2 ^ 64) where
     pub rows_next : Fits w64 (n + 1)
     rows_next = let w = was_read (quick_done (1 + (row_at u n).b) r h (q (λ a b c d e. read d []))) refl in omega (arith, w.count, filled_fits w.filled)
 

@@ -1,7 +1,7 @@
 -- Laws of the members of a Mutable structure: each by its lookup, and then the structure's end. Assumes nothing.
-use Rattle.std.specs.Prelude.{Err, None, Ok, Some}
+use Rattle.std.specs.Prelude.{Option, None, Some, Err, Ok}
 use Rattle.table.specs.declared.out.Trouble.TheVariants as trouble
-use Prim.Native.Nat.{ℕ, suc, ◌+◌, ◌-◌, ◌^◌, ◌≤◌, ◌<◌}
+use Prim.Native.Nat.{ℕ, suc, ◌+◌, ◌-◌, ◌^◌, ◌<◌}
 use mathlib.Core.Path.{◌≡◌, refl, sym, ap, ◌∙◌}
 use mathlib.Core.Bool.{Bool, true, false}
 use mathlib.Core.List.{List, [], ◌∷◌}
@@ -216,14 +216,14 @@ module _ {types : List BookType} {s : List ℕ} {set : Settings} {nest : Nest} {
       found_came d e = is_same came (came_done back d e)
 
       -- .. and was taken where it stands
-      pub found_quick : (v : List ℕ) (x : ℕ) → ((f : Nest) (j : ℕ) → Quickly (found_value types own set f (member_at b p) j c (room u m)) 1 m c.origin u v x) → 0 < x → {g : Hint} → TrueHint s set back back.origin g → LookedSofar types s set nest back b end whole n t v ns (m + 1) g
+      pub found_quick : (v : List ℕ) (x : Option ℕ) → ((f : Nest) (j : ℕ) → Quickly (found_value types own set f (member_at b p) j c (room u m)) 1 m c.origin u v x) → {y : ℕ} → x ≡ Some y → {g : Hint} → TrueHint s set back back.origin g → LookedSofar types s set nest back b end whole n t v ns (m + 1) g
       unfolding coming_back
       found_quick v x q some z = looked_turn (found_came (quick_done 1 x some (q nest size)) refl) refl z
 
-    pub found_next : (own : List ℕ) (c : Cursor) (v : List ℕ) (x : ℕ) → ((f : Nest) (j : ℕ) → Quickly (found_value types own set f (member_at b p) j c (room u m)) 1 m c.origin u v x) → 0 < x → length t < 2 ^ 64 → Fits w64 (m + 1)
+    pub found_next : (own : List ℕ) (c : Cursor) (v : List ℕ) (x : Option ℕ) → ((f : Nest) (j : ℕ) → Quickly (found_value types own set f (member_at b p) j c (room u m)) 1 m c.origin u v x) → {y : ℕ} → x ≡ Some y → length t < 2 ^ 64 → Fits w64 (m + 1)
     found_next own c v x q some k = quick_next _ _ _ _ _ x some (q (λ w ty id d r. read d []) 0) (rw (← inv.so.filled.long) at k)
 
-    pub found_still : (own : List ℕ) (c : Cursor) (v : List ℕ) (x : ℕ) → ((f : Nest) (j : ℕ) → Quickly (found_value types own set f (member_at b p) j c (room u m)) 1 m c.origin u v x) → x ≤ 0 → LookedSofar types s set nest back b end whole n t v ms m h
+    pub found_still : (own : List ℕ) (c : Cursor) (v : List ℕ) (x : Option ℕ) → ((f : Nest) (j : ℕ) → Quickly (found_value types own set f (member_at b p) j c (room u m)) 1 m c.origin u v x) → x ≡ None → LookedSofar types s set nest back b end whole n t v ms m h
     found_still own c v x q none = rw (quick_none _ 1 m c.origin u v x none (q nest 0)) inv
 
   pub looked_end : places_left ms ≡ [] → {r : Out} → ((t : List ℕ) → Done (ending_by s set set.version end back) m t t r) → Done whole n t u r

@@ -1,6 +1,6 @@
 -- Laws of the quick way for a member: of a kind that is taken, the value of a member that is not optional, and of one that was found, is what
 -- `scalar_of` says; and of the header that is asked first. Assumes nothing.
-use Rattle.std.specs.Prelude.{Ok, None, Option as Told}
+use Rattle.std.specs.Prelude.{Option, None, Some, Ok}
 use Prim.Native.Nat.{ℕ, ◌+◌, ◌^◌, ◌≤◌, ◌<◌}
 use mathlib.Core.Path.{◌≡◌, refl, sym, ap, ◌∙◌}
 use mathlib.Core.Bool.{Bool, true, false, not}
@@ -125,7 +125,7 @@ idle w ty id e k = read e []
 -- what the quick way took is the member's
 module _ (b index s : List ℕ) (set : Settings) (p : ℕ) (c : Cursor) (t : List ℕ) (n : ℕ) where
   module _ (ty k i : ℕ) (type : ty ≡ (member_at b p).type) (read : 0 < k → k ≡ read_as (type_no (types_by b index) ty)) (named : i ≡ (member_at b p).id)
-      (u : List ℕ) (r : ℕ) (d : Quickly (scalar_of s set k i c (room t n)) 1 n c.origin t u r) (takes : 0 < r → is_taken k ≡ true) where
+      (u : List ℕ) (r : Option ℕ) (d : Quickly (scalar_of s set k i c (room t n)) 1 n c.origin t u r) (takes : (x : ℕ) → r ≡ Some x → is_taken k ≡ true) where
     read_as_law : is_taken k ≡ true → k ≡ read_as (type_no (types_by b index) ty)
     read_as_law y = read (inside_1 k y).0
 
@@ -134,42 +134,42 @@ module _ (b index s : List ℕ) (set : Settings) (p : ℕ) (c : Cursor) (t : Lis
 
     plain_taken : (o : Bool) → o ≡ optional (member_at b p) → o ≡ false → (nest : Nest) → Quickly (fmember_of (types_by b index) s set nest (member_at b p) c (room t n)) 1 n c.origin t u r
     unfolding fmember_of fmember_by
-    plain_taken o is never nest = quick_as _ _ 1 n c.origin t u r d (λ h. (member_is (takes h)))
+    plain_taken o is never nest = quick_as _ _ 1 n c.origin t u r d (λ x h. member_is (takes x h))
       where
         member_is : is_taken k ≡ true → fmember_of (types_by b index) s set nest (member_at b p) c (room t n) ≡ scalar_of s set k i c (room t n)
         member_is y = rw (sym is ∙ never) (value_is y nest)
 
     pub found_taken : (nest : Nest) (length : ℕ) → Quickly (found_value (types_by b index) s set nest (member_at b p) length c (room t n)) 1 n c.origin t u r
     unfolding found_value found_by
-    found_taken nest length = quick_as _ _ 1 n c.origin t u r d (λ h. (found_is (takes h)))
+    found_taken nest length = quick_as _ _ 1 n c.origin t u r d (λ x h. found_is (takes x h))
       where
         found_is : is_taken k ≡ true → found_value (types_by b index) s set nest (member_at b p) length c (room t n) ≡ scalar_of s set k i c (room t n)
         found_is y = rw (← type, taken_other (types_by b index) s set nest ty i c (room t n) k y (read_as_law y) set.version set.mode) (rw type (value_is y nest))
 
     -- .. and so it is done, or left as it was
-    pub found_done : 0 < r → (nest : Nest) (length : ℕ) → Done (found_value (types_by b index) s set nest (member_at b p) length c (room t n)) n t u (Ok (cursor_at r c.origin, n + 1))
+    pub found_done : {x : ℕ} → r ≡ Some x → (nest : Nest) (length : ℕ) → Done (found_value (types_by b index) s set nest (member_at b p) length c (room t n)) n t u (Ok (cursor_at x c.origin, n + 1))
     found_done h nest length = quick_done 1 r h (found_taken nest length)
 
-    pub found_fits : 0 < r → length t < 2 ^ 64 → Fits w64 (n + 1)
+    pub found_fits : {x : ℕ} → r ≡ Some x → length t < 2 ^ 64 → Fits w64 (n + 1)
     found_fits h l = quick_next _ _ _ _ _ r h (found_taken idle 0) l
 
-    pub found_left : r ≤ 0 → (nest : Nest) (length : ℕ) {v : List ℕ} {x : Out} → Done (found_value (types_by b index) s set nest (member_at b p) length c (room u n)) n u v x → Done (found_value (types_by b index) s set nest (member_at b p) length c (room t n)) n t v x
+    pub found_left : r ≡ None → (nest : Nest) (length : ℕ) {v : List ℕ} {x : Out} → Done (found_value (types_by b index) s set nest (member_at b p) length c (room u n)) n u v x → Done (found_value (types_by b index) s set nest (member_at b p) length c (room t n)) n t v x
     found_left h nest length l = rw (quick_none _ 1 n c.origin t u r h (found_taken nest length)) at l
 
 -- .. so a member that is not optional was taken, or left as it was
 module _ (b index s : List ℕ) (set : Settings) (p : ℕ) (c : Cursor) (t : List ℕ) (n : ℕ) {m : Head} (head : HeadOf (member_at b p) m) (never : not m.optional ≡ true) {k : ℕ} (read_as_law : 0 < k → k ≡ read_as (type_no (types_by b index) m.ty))
-    (u : List ℕ) (r : ℕ) (d : Quickly (scalar_of s set k m.id c (room t n)) 1 n c.origin t u r × (0 < r → is_taken k ≡ true)) where
+    (u : List ℕ) (r : Option ℕ) (d : Quickly (scalar_of s set k m.id c (room t n)) 1 n c.origin t u r × ((x : ℕ) → r ≡ Some x → is_taken k ≡ true)) where
   quickly : (nest : Nest) → Quickly (fmember_of (types_by b index) s set nest (member_at b p) c (room t n)) 1 n c.origin t u r
   quickly = plain_taken b index s set p c t n m.ty k m.id head.type read_as_law head.id u r d.0 d.1 m.optional head.option (not-true m.optional never)
 
-  pub fmember_quick : (nest : Nest) → 0 < r → {e : Cursor} → e ≡ cursor_at r c.origin → Done (fmember_of (types_by b index) s set nest (member_at b p) c (room t n)) n t u (Ok (e, n + 1))
+  pub fmember_quick : (nest : Nest) → {x : ℕ} → r ≡ Some x → {e : Cursor} → e ≡ cursor_at x c.origin → Done (fmember_of (types_by b index) s set nest (member_at b p) c (room t n)) n t u (Ok (e, n + 1))
   fmember_quick nest h e = rw e (quick_done 1 r h (quickly nest))
 
   -- a row that was written has its place
-  pub fmember_next : 0 < r → length t < 2 ^ 64 → Fits w64 (n + 1)
+  pub fmember_next : {x : ℕ} → r ≡ Some x → length t < 2 ^ 64 → Fits w64 (n + 1)
   fmember_next h l = quick_next _ _ _ _ _ r h (quickly idle) l
 
-  pub fmember_left : (nest : Nest) → r ≤ 0 → {v : List ℕ} {x : Out} → Done (fmember_of (types_by b index) s set nest (member_at b p) c (room u n)) n u v x → Done (fmember_of (types_by b index) s set nest (member_at b p) c (room t n)) n t v x
+  pub fmember_left : (nest : Nest) → r ≡ None → {v : List ℕ} {x : Out} → Done (fmember_of (types_by b index) s set nest (member_at b p) c (room u n)) n u v x → Done (fmember_of (types_by b index) s set nest (member_at b p) c (room t n)) n t v x
   fmember_left nest h l = rw (quick_none _ 1 n c.origin t u r h (quickly nest)) at l
 
 -- from a table that is the same
@@ -177,7 +177,7 @@ pub fmember_from : (b index s : List ℕ) (set : Settings) (nest : Nest) (p : �
 fmember_from b index s set nest p c n e d = rw e at d
 
 -- the header where the hint says is asked for the member's own id
-pub ahead_of : (b s : List ℕ) (set : Settings) (p : ℕ) (h : Hint) (origin : ℕ) (r : Told Ahead) (i : ℕ) → i ≡ (member_at b p).id → HeaderAhead s set i h origin r → HeaderAhead s set (member_at b p).id h origin r
+pub ahead_of : (b s : List ℕ) (set : Settings) (p : ℕ) (h : Hint) (origin : ℕ) (r : Option Ahead) (i : ℕ) → i ≡ (member_at b p).id → HeaderAhead s set i h origin r → HeaderAhead s set (member_at b p).id h origin r
 ahead_of b s set p h origin r i e k = rw e at k
 
 pub ahead_none : (s : List ℕ) (set : Settings) (i : ℕ) (h : Hint) (origin : ℕ) → HeaderAhead s set i h origin None

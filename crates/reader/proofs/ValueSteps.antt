@@ -1,8 +1,8 @@
 -- Laws of a value and of lists of opened values: what each return and each turn shows. Assumes nothing.
-use Rattle.std.specs.Prelude.{Err, Ok}
+use Rattle.std.specs.Prelude.{Option, None, Some, Err, Ok}
 use Rattle.table.specs.declared.out.Trouble.TheVariants as trouble
 use Rattle.wire.specs.declared.cursor.Unread.TheVariants as unread
-use Prim.Native.Nat.{ℕ, ◌+◌, ◌-◌, ◌≤◌, ◌<◌}
+use Prim.Native.Nat.{ℕ, ◌+◌, ◌-◌, ◌≤◌}
 use mathlib.Core.Path.{◌≡◌, refl, sym, ap, ◌∙◌}
 use mathlib.Core.Bool.{Bool, true, false, not, ◌||◌, ◌&&◌, or-false}
 use mathlib.Core.List.{List, [], ◌∷◌, append-nil}
@@ -157,11 +157,11 @@ module _ (b index s : List ℕ) (set : Settings) (nest : Nest) (ty id : ℕ) (c 
           is_same (rw (here, tested unsupported_member x false e f, tested opens y false g h, tested (among (25 ∷ 26 ∷ [])) _ false list_among i) (ap (λ (m : ℕ). scalar_of s set m id c (room t n)) (ap read_as (sym at.is) ∙ sym j))) d
 
       -- .. where the quick way took it, or left it alone
-      module _ (h : y ≡ false) (i : (eqb k 25 || eqb k 26) ≡ false) (a : ℕ) (j : a ≡ read_as (type_at b p)) (u : List ℕ) (r : ℕ) (q : Quickly (scalar_of s set a id c (room t n)) 1 n c.origin t u r) where
-        pub value_taken : 0 < r → (d : Cursor) → d ≡ cursor_at r c.origin → Done valued n t u (Ok (d, n + 1))
+      module _ (h : y ≡ false) (i : (eqb k 25 || eqb k 26) ≡ false) (a : ℕ) (j : a ≡ read_as (type_at b p)) (u : List ℕ) (r : Option ℕ) (q : Quickly (scalar_of s set a id c (room t n)) 1 n c.origin t u r) where
+        pub value_taken : {x : ℕ} → r ≡ Some x → (d : Cursor) → d ≡ cursor_at x c.origin → Done valued n t u (Ok (d, n + 1))
         value_taken l d m = value_scalar h i a j u _ (rw m (quick_done 1 r l q))
 
-        pub value_left : r ≤ 0 → (v : List ℕ) (w : Out) → Done (scalar_of s set a id c (room u n)) n u v w → Done valued n t v w
+        pub value_left : r ≡ None → (v : List ℕ) (w : Out) → Done (scalar_of s set a id c (room u n)) n u v w → Done valued n t v w
         value_left l v w d = value_scalar h i a j v w (rw (quick_none _ 1 n c.origin t u r l q) at d)
 
 -- what a DHEADER's end makes of a list

@@ -157,8 +157,7 @@ impl<'a> Deserializer<'a> {
             if !m.optional {
                 let id = u64::from(m.id);
                 let kind = plain::kind_of(&self.types, m.ty);
-                let past = value_at(self.reader, t, kind, id, c, n);
-                if 0 < past {
+                if let Some(past) = value_at(self.reader, t, kind, id, c, n) {
                     return Ok((Cursor::new(past, c.origin), n + 1));
                 }
                 if kinds::opens(kind) {
@@ -180,8 +179,7 @@ impl<'a> Deserializer<'a> {
             return self.option(t, p, c, n, depth);
         }
         let id = u64::from(m.id);
-        let past = self.list(t, m.ty, id, c, n);
-        if 0 < past {
+        if let Some(past) = self.list(t, m.ty, id, c, n) {
             let rows = row_at(t, n).b as usize;
             return Ok((Cursor::new(past, c.origin), n + 1 + rows));
         }

@@ -56,8 +56,7 @@ impl<'a> Deserializer<'a> {
                     },
                 };
                 let kind = kind_found(&self.types, p);
-                let past = any_at(own.reader, t, kind, u64::from(wanted), d, n);
-                if 0 < past {
+                if let Some(_) = any_at(own.reader, t, kind, u64::from(wanted), d, n) {
                     return Ok((c, n + 1));
                 }
                 came_back(c, own.found(t, p, length, d, n, depth))

@@ -46,20 +46,20 @@ pub fn kind_found(types: &Types, p: usize) -> u8
 }
 
 impl<'a> Deserializer<'a> {
-    // Takes a value of type number `ty` where that is a list of numbers which are there whole (no DHEADER begins it), and tells the position after it; or 0, and
+    // Takes a value of type number `ty` where that is a list of numbers which are there whole (no DHEADER begins it), and tells the position after it; or None, and
     // nothing is done. Its row says how many rows follow it.
-    pub fn list(self, t: &mut [u64], ty: usize, id: u64, c: Cursor, n: usize) -> usize
+    pub fn list(self, t: &mut [u64], ty: usize, id: u64, c: Cursor, n: usize) -> Option<usize>
         ensures { (nest : Nest) → Quickly (value_of (types_in self.entry.types) self.entry.reader.bytes.now self.entry.reader.set nest ty id c (room t.old n)) (1 + (row_at t.new n).b) n c.origin t.old t.new result }
     {
         let book = self.types.book;
         let at = self.types.place(ty);
         let of = kind_at(book, at);
         if (of != SEQUENCE) & (of != ARRAY) {
-            return 0;
+            return None;
         }
         let kind = kind_at(book, self.types.element_place(at));
         if !kinds::is_primitive(kind) | (kind == CHAR16) {
-            return 0;
+            return None;
         }
         let r = self.reader;
         if of == ARRAY {
@@ -67,7 +67,7 @@ impl<'a> Deserializer<'a> {
         }
         let p = c.start(r.bytes, r.set.version, 4);
         if r.bytes.len() < p + 4 {
-            return 0;
+            return None;
         }
         let count = from_bytes(r.bytes, r.set.order, p, 4);
         list_at(r, t, kind, id, count, Cursor::new(p + 4, c.origin), n)

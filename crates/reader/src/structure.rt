@@ -13,7 +13,7 @@ use crate::types::{came_back, ended_by};
 use book::member::{id, members, type_index};
 use lookup::ahead::{Hint, hint_after, value_at};
 use table::out::Out;
-use values::quick::found_value_at;
+use values::quick;
 use wire::cursor::Cursor;
 use wire::reader::Reader;
 
@@ -73,8 +73,7 @@ impl<'a> Deserializer<'a> {
             };
             let number = u64::from(wanted);
             let kind = kind_found(&self.types, p);
-            let past = found_value_at(own.reader, t, kind, number, c, m);
-            if 0 < past {
+            if let Some(_) = quick::value_at(own.reader, t, kind, number, c, m) {
                 m += 1;
                 continue;
             }

@@ -40,8 +40,7 @@ impl<'a> Deserializer<'a> {
             return self.listed(t, p, id, c, n, depth);
         }
         let kind = read_as(self.types.book, p);
-        let past = any_at(self.reader, t, kind, id, c, n);
-        if 0 < past {
+        if let Some(past) = any_at(self.reader, t, kind, id, c, n) {
             return Ok((Cursor::new(past, c.origin), n + 1));
         }
         scalar(self.reader, t, kind, id, c, n)

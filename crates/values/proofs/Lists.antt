@@ -1,6 +1,6 @@
 -- Laws of lists of values that open nothing: the loop's start, turn and ends, and the list around it. Assumes nothing.
-use Rattle.std.specs.Prelude.{Err, Ok}
-use Prim.Native.Nat.{ℕ, zero, suc, ◌+◌, ◌-◌, ◌^◌, ◌≤◌, ◌<◌}
+use Rattle.std.specs.Prelude.{Option, None, Some, Err, Ok}
+use Prim.Native.Nat.{ℕ, suc, ◌+◌, ◌-◌, ◌^◌, ◌≤◌, ◌<◌}
 use mathlib.Core.Path.{◌≡◌, refl, sym, ap, ◌∙◌}
 use mathlib.Core.Bool.{Bool, true, false, ◌||◌, or-false}
 use mathlib.Core.List.{List, [], ◌∷◌}
@@ -34,7 +34,7 @@ use Rattle.values.specs.Scalar.{scalar_of}
 use Rattle.values.specs.List.{elements_from, list_of, on_block, block_of, primitives_of, bitmasks_or_texts_of}
 use Rattle.values.specs.Code.Quick.{Quickly}
 use Rattle.values.specs.Code.Lists.{block_at, plain_of}
-use Rattle.values.proofs.Quickly.{quick_is, quick_done, quick_none, quick_zero, quick_next}
+use Rattle.values.proofs.Quickly.{quick_is, quick_done, quick_none, quick_not, quick_next}
 
 module _ (s : List ℕ) (set : Settings) (kind count : ℕ) where
   more : (i : ℕ) (c : Cursor) (k : ℕ) → i < count → elements_from s set kind (count - i) i c k ≡ and_then (scalar_of s set kind i c k) (λ d used. elements_from s set kind (count - (i + 1)) (i + 1) d (k - used))
@@ -53,14 +53,14 @@ module _ (s : List ℕ) (set : Settings) (kind count : ℕ) where
   elements_start c t n = sofar_start (rw sub-zero)
 
   -- where the quick way took nothing, and where it took all
-  module _ (c : Cursor) (t u : List ℕ) (n r : ℕ) (q : Quickly (elements_from s set kind count 0 c (room t n)) count n c.origin t u r) where
-    pub quick_else : r ≤ 0 → (v : List ℕ) (x : Out) → Done (elements_from s set kind count 0 c (room u n)) n u v x → Done (elements_from s set kind count 0 c (room t n)) n t v x
+  module _ (c : Cursor) (t u : List ℕ) (n : ℕ) (r : Option ℕ) (q : Quickly (elements_from s set kind count 0 c (room t n)) count n c.origin t u r) where
+    pub quick_else : r ≡ None → (v : List ℕ) (x : Out) → Done (elements_from s set kind count 0 c (room u n)) n u v x → Done (elements_from s set kind count 0 c (room t n)) n t v x
     quick_else h v x d = rw (quick_none _ count n c.origin t u r h q) at d
 
-    pub quick_all : 0 < r → (d : Cursor) → d ≡ cursor_at r c.origin → Done (elements_from s set kind count 0 c (room t n)) n t u (Ok (d, n + count))
+    pub quick_all : {p : ℕ} → r ≡ Some p → (d : Cursor) → d ≡ cursor_at p c.origin → Done (elements_from s set kind count 0 c (room t n)) n t u (Ok (d, n + count))
     quick_all h d e = rw e (quick_done count r h q)
 
-    pub quick_count : 0 < r → length t < 2 ^ 64 → n < 2 ^ 64 → Fits w64 (n + count)
+    pub quick_count : {p : ℕ} → r ≡ Some p → length t < 2 ^ 64 → n < 2 ^ 64 → Fits w64 (n + count)
     quick_count h k l = let w = was_read (quick_done count r h q) refl in omega (arith, w.count, filled_fits w.filled)
 
   module _ (whole : Outcome) (n : ℕ) (t u : List ℕ) (i : ℕ) (c : Cursor) (m : ℕ) (inv : ElementsSofar whole n t u i c m) where
@@ -76,14 +76,14 @@ module _ (s : List ℕ) (set : Settings) (kind count : ℕ) where
       elements_none (trouble.Refused k) q = let w = was_refused h q in sofar_refused inv (more i c (room u m) l ∙ then_refused _ w.is) w.filled
 
     -- an element that the quick way took, or left alone
-    module _ (v : List ℕ) (r : ℕ) (q : Quickly (scalar_of s set kind i c (room u m)) 1 m c.origin u v r) where
-      pub elements_quick : i < count → 0 < r → (d : Cursor) → d ≡ cursor_at r c.origin → ElementsSofar whole n t v (i + 1) d (m + 1)
-      elements_quick l h d e = rw e (elements_turn l v (Ok (cursor_at r c.origin, m + 1)) (quick_done 1 r h q) (cursor_at r c.origin) (m + 1) refl)
+    module _ (v : List ℕ) (r : Option ℕ) (q : Quickly (scalar_of s set kind i c (room u m)) 1 m c.origin u v r) where
+      pub elements_quick : i < count → {p : ℕ} → r ≡ Some p → (d : Cursor) → d ≡ cursor_at p c.origin → ElementsSofar whole n t v (i + 1) d (m + 1)
+      elements_quick l {p} h d e = rw e (elements_turn l v (Ok (cursor_at p c.origin, m + 1)) (quick_done 1 r h q) (cursor_at p c.origin) (m + 1) refl)
 
-      pub elements_left : r ≤ 0 → ElementsSofar whole n t v i c m
+      pub elements_left : r ≡ None → ElementsSofar whole n t v i c m
       elements_left h = rw (quick_none _ 1 m c.origin u v r h q) inv
 
-      pub elements_next : 0 < r → length t < 2 ^ 64 → Fits w64 (m + 1)
+      pub elements_next : {p : ℕ} → r ≡ Some p → length t < 2 ^ 64 → Fits w64 (m + 1)
       elements_next h k = quick_next _ _ _ _ _ r h q (rw (← inv.filled.long) at k)
 
     pub elements_end : count ≤ i → Done whole n t u (Ok (c, m))
@@ -136,16 +136,12 @@ plain_by_kind s set kind read_as_law id count c free bytes own e = go (is_primit
     go false f = rw (is, bytes_primitive kind f) (blocked read_as_law false)
 
 -- an empty list is read where it stands
-pub quick_empty : (s : List ℕ) (set : Settings) (kind count : ℕ) → count ≡ 0 → (c : Cursor) (t : List ℕ) (n : ℕ) → Quickly (elements_from s set kind count 0 c (room t n)) count n c.origin t t c.pos
+pub quick_empty : (s : List ℕ) (set : Settings) (kind count : ℕ) → count ≡ 0 → (c : Cursor) (t : List ℕ) (n : ℕ) → Quickly (elements_from s set kind count 0 c (room t n)) count n c.origin t t (Some c.pos)
 unfolding Quickly elements_from
-quick_empty s set kind count e c t n = rw e (go c.pos refl)
-  where
-    go : (p : ℕ) → c.pos ≡ p → Quickly (read c []) 0 n c.origin t t p
-    go zero h = refl
-    go (suc p) h = is_read {rs = []} (ap (λ (x : ℕ). read (cursor_at x c.origin) []) h) refl (filled_none t n)
+quick_empty s set kind count e c t n = rw e (is_read {rs = []} refl refl (filled_none t n))
 
 -- a list that the quick way took: its row, once its elements have theirs
-module _ (s : List ℕ) (set : Settings) (kind count id : ℕ) (c : Cursor) (t u : List ℕ) (n r : ℕ) where
+module _ (s : List ℕ) (set : Settings) (kind count id : ℕ) (c : Cursor) (t u : List ℕ) (n : ℕ) (r : Option ℕ) where
   module _ (f : Bool) (is : f ≡ no_room t n) (free : f ≡ false) (within : c.pos ≤ length s) (enough : count ≤ length s - c.pos) where
     blocked : (bytes : Bool) (o : Outcome) → on_block (block_at bytes s c count) o ≡ o
     unfolding on_block block_at
@@ -153,25 +149,22 @@ module _ (s : List ℕ) (set : Settings) (kind count id : ℕ) (c : Cursor) (t u
     blocked false o = refl
 
     module _ (q : Quickly (elements_from s set kind count 0 c (room t (n + 1))) count (n + 1) c.origin t u r) where
-      pub quick_list : 0 < r → (k x : ℕ) → k ≡ stored_of 25 → x ≡ stored_of kind → (v : List ℕ) → v ≡ put_row u n (row k id x count c.pos)
-          → (bytes : Bool) → Quickly (plain_of bytes s set kind id count c (room t n)) (1 + count) n c.origin t v r
+      pub quick_list : {p : ℕ} → r ≡ Some p → (k x : ℕ) → k ≡ stored_of 25 → x ≡ stored_of kind → (v : List ℕ) → v ≡ put_row u n (row k id x count c.pos)
+          → (bytes : Bool) → Quickly (plain_of bytes s set kind id count c (room t n)) (1 + count) n c.origin t v (Some p)
       unfolding plain_of list_of prepend
-      quick_list h k x list stored v p bytes =
+      quick_list {p} h k x list stored v put bytes =
           let w = was_read (quick_done count r h q) refl in
           let rs = row 25 id (stored_of kind) count c.pos in
-          let z : v ≡ put_row u n rs = rw (list ∙ sequence_stored, stored) at p in
-          let e : plain_of bytes s set kind id count c (room t n) ≡ read (cursor_at r c.origin) (rs ∷ w.new) =
+          let z : v ≡ put_row u n rs = rw (list ∙ sequence_stored, stored) at put in
+          let e : plain_of bytes s set kind id count c (room t n) ≡ read (cursor_at p c.origin) (rs ∷ w.new) =
           blocked bytes _ ∙ some_room t n _ f is free ∙ ap (λ (y : ℕ). prepend (rs ∷ []) (elements_from s set kind count 0 c y)) (room_used t t n 1 refl) ∙ ap (prepend (rs ∷ [])) w.is in
-          quick_is (1 + count) r h (is_read e (omega (arith, w.count)) (rw z (filled_row rs (full_fits t n f is free) w.filled)))
+          quick_is (1 + count) p (is_read e (omega (arith, w.count)) (rw z (filled_row rs (full_fits t n f is free) w.filled)))
 
       -- .. which tells how many they are
-      pub quick_counted : 0 < r → (k x : ℕ) (v : List ℕ) → v ≡ put_row u n (row k id x count c.pos) → (row_at v n).b ≡ count
-      quick_counted h k x v p =
+      pub quick_counted : {p : ℕ} → r ≡ Some p → (k x : ℕ) (v : List ℕ) → v ≡ put_row u n (row k id x count c.pos) → (row_at v n).b ≡ count
+      quick_counted h k x v put =
           let w = was_read (quick_done count r h q) refl in
-          rw p (ap (λ (y : Row). y.b) (filled_first (filled_row (row k id x count c.pos) (full_fits t n f is free) w.filled)))
+          rw put (ap (λ (y : Row). y.b) (filled_first (filled_row (row k id x count c.pos) (full_fits t n f is free) w.filled)))
 
-  pub none_counted : r ≤ 0 → 0 < r → (row_at u n).b ≡ count
-  none_counted h k = absurd (omega arith)
-
-  pub quick_listless : r ≤ 0 → Quickly (elements_from s set kind count 0 c (room t (n + 1))) count (n + 1) c.origin t u r → (bytes : Bool) → Quickly (plain_of bytes s set kind id count c (room t n)) (1 + count) n c.origin t u r
-  quick_listless h q bytes = rw (quick_none _ count (n + 1) c.origin t u r h q) (quick_zero _ (1 + count) n c.origin t r h)
+  pub quick_listless : r ≡ None → Quickly (elements_from s set kind count 0 c (room t (n + 1))) count (n + 1) c.origin t u r → (bytes : Bool) → Quickly (plain_of bytes s set kind id count c (room t n)) (1 + count) n c.origin t u None
+  quick_listless h q bytes = rw (quick_none _ count (n + 1) c.origin t u r h q) (quick_not _ (1 + count) n c.origin t)

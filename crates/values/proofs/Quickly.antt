@@ -1,5 +1,5 @@
 -- Laws of the quick way: what it takes is what `scalar_of` says. Assumes nothing.
-use Rattle.std.specs.Prelude.{Ok}
+use Rattle.std.specs.Prelude.{Option, None, Some, Ok}
 use Prim.Native.Nat.{ℕ, zero, suc, ◌+◌, ◌-◌, ◌*◌, ◌≤◌, ◌<◌, ◌^◌}
 use mathlib.Core.Path.{◌≡◌, refl, sym, ◌∙◌}
 use mathlib.Core.Bool.{Bool, true, false, not, ◌||◌}
@@ -36,49 +36,41 @@ use Rattle.values.proofs.Scalars.{row_given}
 
 -- what an answer of the quick way tells
 module _ {o : Outcome} (k : ℕ) {n origin : ℕ} {a b : List ℕ} where
-  pub quick_is : (r : ℕ) → 0 < r → Done o n a b (Ok (cursor_at r origin, n + k)) → Quickly o k n origin a b r
+  pub quick_is : (p : ℕ) → Done o n a b (Ok (cursor_at p origin, n + k)) → Quickly o k n origin a b (Some p)
   unfolding Quickly
-  quick_is zero h d = absurd (omega arith)
-  quick_is (suc p) h d = d
+  quick_is p d = d
 
-  pub quick_done : (r : ℕ) → 0 < r → Quickly o k n origin a b r → Done o n a b (Ok (cursor_at r origin, n + k))
+  pub quick_done : (r : Option ℕ) {p : ℕ} → r ≡ Some p → Quickly o k n origin a b r → Done o n a b (Ok (cursor_at p origin, n + k))
   unfolding Quickly
-  quick_done zero h q = absurd (omega arith)
-  quick_done (suc p) h q = q
+  quick_done r h q = rw h at q
 
 -- a row that was written has its place
-pub quick_next : (o : Outcome) (n origin : ℕ) (a b : List ℕ) (r : ℕ) → 0 < r → Quickly o 1 n origin a b r → length a < 2 ^ 64 → Fits w64 (n + 1)
+pub quick_next : (o : Outcome) (n origin : ℕ) (a b : List ℕ) (r : Option ℕ) {p : ℕ} → r ≡ Some p → Quickly o 1 n origin a b r → length a < 2 ^ 64 → Fits w64 (n + 1)
 quick_next o n origin a b r h q k = let w = was_read (quick_done 1 r h q) refl in omega (arith, w.count, filled_fits w.filled)
 
-pub quick_as : (o p : Outcome) (k n origin : ℕ) (a b : List ℕ) (r : ℕ) → Quickly p k n origin a b r → (0 < r → o ≡ p) → Quickly o k n origin a b r
+pub quick_as : (o p : Outcome) (k n origin : ℕ) (a b : List ℕ) (r : Option ℕ) → Quickly p k n origin a b r → ((x : ℕ) → r ≡ Some x → o ≡ p) → Quickly o k n origin a b r
 unfolding Quickly
-quick_as o p k n origin a b zero q e = q
-quick_as o p k n origin a b (suc r) q e = is_same (e (omega arith)) q
+quick_as o p k n origin a b None q e = q
+quick_as o p k n origin a b (Some r) q e = is_same (e r refl) q
 
 module _ (o : Outcome) (k n origin : ℕ) (a b : List ℕ) where
-  pub quick_none : (r : ℕ) → r ≤ 0 → Quickly o k n origin a b r → b ≡ a
+  pub quick_none : (r : Option ℕ) → r ≡ None → Quickly o k n origin a b r → b ≡ a
   unfolding Quickly
-  quick_none zero h q = q
-  quick_none (suc p) h q = absurd (omega arith)
+  quick_none r h q = rw h at q
 
-pub quick_not : (o : Outcome) (k n origin : ℕ) (a : List ℕ) → Quickly o k n origin a a 0
+pub quick_not : (o : Outcome) (k n origin : ℕ) (a : List ℕ) → Quickly o k n origin a a None
 unfolding Quickly
 quick_not o k n origin a = refl
 
-pub quick_zero : (o : Outcome) (k n origin : ℕ) (a : List ℕ) (r : ℕ) → r ≤ 0 → Quickly o k n origin a a r
-unfolding Quickly
-quick_zero o k n origin a zero h = refl
-quick_zero o k n origin a (suc r) h = absurd (omega arith)
-
 -- the table stays as long, so a row that had a place has it still
-pub place_still : (t u : List ℕ) (n : ℕ) (f : Bool) → f ≡ no_room t n → f ≡ false → (o : Outcome) (k m origin r : ℕ) → Quickly o k m origin t u r → width * n + width ≤ length u
+pub place_still : (t u : List ℕ) (n : ℕ) (f : Bool) → f ≡ no_room t n → f ≡ false → (o : Outcome) (k m origin : ℕ) (r : Option ℕ) → Quickly o k m origin t u r → width * n + width ≤ length u
 unfolding Quickly
-place_still t u n f is free o k m origin zero q = rw q (full_fits t n f is free)
-place_still t u n f is free o k m origin (suc r) q = rw q.table.long (full_fits t n f is free)
+place_still t u n f is free o k m origin None q = rw q (full_fits t n f is free)
+place_still t u n f is free o k m origin (Some r) q = rw q.table.long (full_fits t n f is free)
 
--- one row, at a place that is not the data's first
-quick_row : (o : Outcome) (t : List ℕ) (n origin p : ℕ) (r : Row) → o ≡ rowed (room t n) (cursor_at p origin) r → 0 < p → no_room t n ≡ false → (u : List ℕ) → u ≡ put_row t n r → Quickly o 1 n origin t u p
-quick_row o t n origin p r e h free u put = quick_is 1 p h (is_same e (row_given t n (no_room t n) refl (cursor_at p origin) r free u put))
+-- one row
+quick_row : (o : Outcome) (t : List ℕ) (n origin p : ℕ) (r : Row) → o ≡ rowed (room t n) (cursor_at p origin) r → no_room t n ≡ false → (u : List ℕ) → u ≡ put_row t n r → Quickly o 1 n origin t u (Some p)
+quick_row o t n origin p r e free u put = quick_is 1 p (is_same e (row_given t n (no_room t n) refl (cursor_at p origin) r free u put))
 
 pub free_fits : (t : List ℕ) (n : ℕ) → no_room t n ≡ false → width * n + width ≤ length t
 free_fits t n e = full_fits t n (no_room t n) refl e
@@ -138,14 +130,14 @@ module _ (kind : ℕ) (num : is_number kind ≡ true) where
   module _ (s : List ℕ) (set : Settings) (id : ℕ) (c : Cursor) (t : List ℕ) (n w : ℕ) (wide : w ≡ align_of kind) (q v : ℕ) where
     pub quick_number : (q + w ≤ length s → q ≡ c.pos + padding_of c (alignment_of set.version w)) → q + w ≤ length s → v ≡ number_at set.order 0 s q w
         → (x : ℕ) → x ≡ word_of kind v → (y : ℕ) → y ≡ stored_of kind → no_room t n ≡ false → (u : List ℕ) → u ≡ put_row t n (row y id x 0 q)
-        → Quickly (scalar_of s set kind id c (room t n)) 1 n c.origin t u (q + w)
+        → Quickly (scalar_of s set kind id c (room t n)) 1 n c.origin t u (Some (q + w))
     unfolding on_number
     quick_number starts h is x word y stored free u put =
         let z : read_number s set c w ≡ (Ok (v, cursor_at (q + w) c.origin)) = read_there s set c w q v (starts h) h is in
         let k : read_number s set c (align_of kind) ≡ (Ok (v, cursor_at (q + w) c.origin)) = rw (← wide) z in
         let p : u ≡ put_row t n (row (stored_of kind) id (word_of kind v) 0 q) = rw (stored, word) at put in
         let b : place_before (align_of kind) (q + w) ≡ q = rw (← wide) (read_begins q w) in
-        quick_row (scalar_of s set kind id c (room t n)) t n c.origin (q + w) (row (stored_of kind) id (word_of kind v) 0 q) (number_is s set id c (room t n) ∙ rw (k, b)) (omega (arith, wide, number_some)) free u p
+        quick_row (scalar_of s set kind id c (room t n)) t n c.origin (q + w) (row (stored_of kind) id (word_of kind v) 0 q) (number_is s set id c (room t n) ∙ rw (k, b)) free u p
 
 -- a boolean's byte, and its row
 boolean_of : (v : ℕ) → v ≤ 1 → (c : Cursor) → (b : Bool) × ((boolean_in v c ≡ Ok (b, c)) × (v ≡ bool_word b))
@@ -156,24 +148,24 @@ boolean_of (suc (suc v)) h c = absurd (omega arith)
 
 module _ (s : List ℕ) (set : Settings) (id : ℕ) (c : Cursor) (t : List ℕ) (n : ℕ) where
   pub quick_boolean : (q v : ℕ) → (q + 1 ≤ length s → q ≡ c.pos + padding_of c (alignment_of set.version 1)) → q + 1 ≤ length s → v ≡ number_at set.order 0 s q 1 → v ≤ 1
-      → no_room t n ≡ false → (u : List ℕ) → u ≡ put_row t n (row 1 id v 0 q) → Quickly (scalar_of s set 1 id c (room t n)) 1 n c.origin t u (q + 1)
+      → no_room t n ≡ false → (u : List ℕ) → u ≡ put_row t n (row 1 id v 0 q) → Quickly (scalar_of s set 1 id c (room t n)) 1 n c.origin t u (Some (q + 1))
   unfolding scalar_of on_boolean read_boolean on_byte
   quick_boolean q v starts h is small free u put =
       let z : read_number s set c 1 ≡ (Ok (v, cursor_at (q + 1) c.origin)) = read_there s set c 1 q v (starts h) h is in
       let b = boolean_of v small (cursor_at (q + 1) c.origin) in
       let e : on_boolean id (room t n) (read_boolean s set c) ≡ rowed (room t n) (cursor_at (q + 1) c.origin) (row 1 id v 0 q) = rw (z, b.1.0, ← b.1.1, read_begins q 1) in
-      quick_row (scalar_of s set 1 id c (room t n)) t n c.origin (q + 1) (row 1 id v 0 q) e (omega arith) free u put
+      quick_row (scalar_of s set 1 id c (room t n)) t n c.origin (q + 1) (row 1 id v 0 q) e free u put
 
   -- a text that is all there and well-formed, q being where its length stands, and its row
   pub quick_text : (q v start : ℕ) → (q + 4 ≤ length s → q ≡ c.pos + padding_of c (alignment_of set.version 4)) → q + 4 ≤ length s → v ≡ number_at set.order 0 s q 4
       → start ≡ q + 4 → 0 < v → start + v ≤ length s → (good : Bool) → good ≡ utf8 (part s start (v - 1)) → good ≡ true → no_room t n ≡ false → (u : List ℕ) → u ≡ put_row t n (row 16 id start (v - 1) q)
-      → Quickly (scalar_of s set 16 id c (room t n)) 1 n c.origin t u (start + v)
+      → Quickly (scalar_of s set 16 id c (room t n)) 1 n c.origin t u (Some (start + v))
   unfolding scalar_of on_text
   quick_text q v start starts h is e some fits good g k' free u put =
       let z : read_number s set c 4 ≡ (Ok (v, cursor_at start c.origin)) = rw e (read_there s set c 4 q v (starts h) h is) in
       let k : string_type s set c ≡ (Ok (start, v - 1, cursor_at (start + v) c.origin)) = string_there s set c start v z some fits (sym g ∙ k') in
       let b : place_before 4 start ≡ q = rw e (read_begins q 4) in
-      quick_row (scalar_of s set 16 id c (room t n)) t n c.origin (start + v) (row 16 id start (v - 1) q) (rw (k, b)) (omega arith) free u put
+      quick_row (scalar_of s set 16 id c (room t n)) t n c.origin (start + v) (row 16 id start (v - 1) q) (rw (k, b)) free u put
 
 -- a number is taken
 pub taken_number : (kind : ℕ) (b : Bool) → b ≡ is_number kind → b ≡ true → is_taken kind ≡ true
@@ -189,13 +181,13 @@ taken_number kind b is h =
 
 -- what is taken, by the kind that it is
 module _ (kind k : ℕ) (e : kind ≡ k) where
-  pub quick_kind : (s : List ℕ) (set : Settings) (id : ℕ) (c : Cursor) (room j n origin : ℕ) (a b : List ℕ) (r : ℕ) → Quickly (scalar_of s set k id c room) j n origin a b r → Quickly (scalar_of s set kind id c room) j n origin a b r
+  pub quick_kind : (s : List ℕ) (set : Settings) (id : ℕ) (c : Cursor) (room j n origin : ℕ) (a b : List ℕ) (r : Option ℕ) → Quickly (scalar_of s set k id c room) j n origin a b r → Quickly (scalar_of s set kind id c room) j n origin a b r
   quick_kind s set id c room j n origin a b r q = rw e q
 
   pub taken_known : is_taken k ≡ true → is_taken kind ≡ true
   taken_known h = rw e h
 
-pub none_taken : (r kind : ℕ) → r ≤ 0 → 0 < r → is_taken kind ≡ true
-none_taken r kind h k = absurd (omega arith)
+pub none_taken : (kind p : ℕ) → None ≡ Some p → is_taken kind ≡ true
+none_taken kind p h = absurd (cc)
 
 pub ruleset quick_laws = (is_free, free_fits, wide_some, wide_most, past_fits, number_so, quick_number, quick_boolean, quick_kind, quick_not, none_taken, taken_known, taken_number)

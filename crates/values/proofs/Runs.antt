@@ -1,12 +1,12 @@
 -- Laws of a list of numbers that is there whole: its rows, one turn of the loop after the other, and that the rules say the same of it.
 -- Assumes nothing.
-use Rattle.std.specs.Prelude.{Ok}
+use Rattle.std.specs.Prelude.{Option, None, Some, Ok}
 use Prim.Native.Nat.{ℕ, zero, suc, ◌+◌, ◌-◌, ◌*◌, ◌^◌, ◌%◌, ◌≤◌, ◌<◌}
 use mathlib.Core.Path.{◌≡◌, refl, sym, ap, ◌∙◌}
 use mathlib.Core.Bool.{Bool, true, false, not, ◌||◌}
 use mathlib.Core.List.{List, [], ◌∷◌, ◌++◌, append-nil, append_assoc}
 use native.Mathlib.Numerals.{add-one}
-use native.Mathlib.Nat.{mul-le-mul_right, add-zero, suc-mul, zero-mul, sub-zero, mul-le-mul_left, mul-pos}
+use native.Mathlib.Nat.{mul-le-mul_right, add-zero, suc-mul, zero-mul, sub-zero, mul-le-mul_left}
 use native.Mathlib.Omega.{arith}
 use mir.Syntax.{w64}
 use mir.Val.{Fits}
@@ -122,17 +122,14 @@ pub product_fits : (count w : ℕ) → count ≤ 0xFFFFFFFF → w ≤ 8 → Fits
 product_fits count w h k = omega (arith, mul-le-mul_left count k)
 
 module _ (s t : List ℕ) (w count p n : ℕ) where
-  pub not_there : WhereThere s t w count p n 0
+  pub not_there : WhereThere s t w count p n None
   unfolding WhereThere
   not_there = tt
 
   -- the code's tests, in their order
-  pub is_there_law : (e r : ℕ) → e ≡ length s → r ≡ capacity t → 0 < w → (eqb count 0 || ltb 0xFFFFFFFF count) ≡ false → p ≤ e → n ≤ r → count * w ≤ e - p → count ≤ r - n → (x : ℕ) → x ≡ p + count * w → WhereThere s t w count p n x
+  pub is_there_law : (e r : ℕ) → e ≡ length s → r ≡ capacity t → 0 < w → (eqb count 0 || ltb 0xFFFFFFFF count) ≡ false → p ≤ e → n ≤ r → count * w ≤ e - p → count ≤ r - n → (x : ℕ) → x ≡ p + count * w → WhereThere s t w count p n (Some x)
   unfolding WhereThere
-  is_there_law e r is cap wide some inside place bytes rows zero at =
-      let c : 0 < count = omega (arith, eqb-false count 0 (neither_first (eqb count 0) (ltb 0xFFFFFFFF count) some)) in
-      absurd (omega (arith, mul-pos c wide))
-  is_there_law e r is cap wide some inside place bytes rows (suc x) at =
+  is_there_law e r is cap wide some inside place bytes rows x at =
       (omega (arith, eqb-false count 0 (neither_first (eqb count 0) (ltb 0xFFFFFFFF count) some)), at, omega arith, omega arith)
 
   record There (x : ℕ) : Type 0 where
@@ -141,23 +138,25 @@ module _ (s t : List ℕ) (w count p n : ℕ) where
     inside : p + count * w ≤ length s
     place : n + count ≤ capacity t
 
-  there_of : (x : ℕ) → WhereThere s t w count p n x → 0 < x → There x
+  there_of : (x : ℕ) → WhereThere s t w count p n (Some x) → There x
   unfolding WhereThere
-  there_of zero h l = absurd (omega arith)
-  there_of (suc x) h l = record { some = h.0; at = h.1; inside = h.2; place = h.3 }
+  there_of x h = record { some = h.0; at = h.1; inside = h.2; place = h.3 }
 
-  module _ (x : ℕ) (h : WhereThere s t w count p n x) (yes : 0 < x) where
+  module _ {x : ℕ} (r : Option ℕ) (h : WhereThere s t w count p n r) (yes : r ≡ Some x) where
+    there : There x
+    there = there_of x (rw yes at h)
+
     pub there_some : 0 < count
-    there_some = (there_of x h yes).some
+    there_some = there.some
 
     pub there_at : x ≡ p + count * w
-    there_at = (there_of x h yes).at
+    there_at = there.at
 
     pub there_inside : p + count * w ≤ length s
-    there_inside = (there_of x h yes).inside
+    there_inside = there.inside
 
     pub there_place : n + count ≤ capacity t
-    there_place = (there_of x h yes).place
+    there_place = there.place
 
 pub ruleset there_laws = (count_most, product_fits, not_there, is_there_law)
 
@@ -228,12 +227,12 @@ module _ (s : List ℕ) (set : Settings) (kind : ℕ) (num : is_number kind ≡ 
       ∙ run_is (suc left) 0 d k (omega (arith, m.0, m.2)) z h l ∙ ap (λ (x : ℕ). read (cursor_at (d.pos + suc left * align_of kind) x) (rows_from s set.order kind (suc left) 0 d.pos)) m.2
 
   -- what the quick way answers of a list
-  module _ (c : Cursor) (count n w : ℕ) (t : List ℕ) (wide : w ≡ align_of kind) (p : Place) (is : p ≡ align_to s set.version c w) (d : Cursor) (at : p ≡ Ok d) (x : ℕ) (there : WhereThere s t w count d.pos n x) (yes : 0 < x) where
-    pub run_done : c.origin ≤ c.pos → (u : List ℕ) → Filled t u n (rows_from s set.order kind count 0 d.pos) → Quickly (elements_from s set kind count 0 c (room t n)) count n c.origin t u x
+  module _ (c : Cursor) (count n w : ℕ) (t : List ℕ) (wide : w ≡ align_of kind) (p : Place) (is : p ≡ align_to s set.version c w) (d : Cursor) (at : p ≡ Ok d) {x : ℕ} (r : Option ℕ) (there : WhereThere s t w count d.pos n r) (yes : r ≡ Some x) where
+    pub run_done : c.origin ≤ c.pos → (u : List ℕ) → Filled t u n (rows_from s set.order kind count 0 d.pos) → Quickly (elements_from s set kind count 0 c (room t n)) count n c.origin t u (Some x)
     unfolding room
     run_done after u f =
         let e : align_to s set.version c (align_of kind) ≡ (Ok d) = rw wide at (sym is ∙ at) in
-        let h : d.pos + count * align_of kind ≤ length s = rw wide at (there_inside s t w count d.pos n x there yes) in
-        let y : x ≡ d.pos + count * align_of kind = rw wide at (there_at s t w count d.pos n x there yes) in
-        let o = run_past count c d (capacity t - n) (there_some s t w count d.pos n x there yes) e after h (omega (arith, there_place s t w count d.pos n x there yes)) in
-        quick_is count x yes (is_read (o ∙ rw (sym y)) (ap (λ (z : ℕ). n + z) (sym (rows_count s set.order kind count 0 d.pos))) f)
+        let h : d.pos + count * align_of kind ≤ length s = rw wide at (there_inside s t w count d.pos n r there yes) in
+        let y : x ≡ d.pos + count * align_of kind = rw wide at (there_at s t w count d.pos n r there yes) in
+        let o = run_past count c d (capacity t - n) (there_some s t w count d.pos n r there yes) e after h (omega (arith, there_place s t w count d.pos n r there yes)) in
+        quick_is count x (is_read (o ∙ rw (sym y)) (ap (λ (z : ℕ). n + z) (sym (rows_count s set.order kind count 0 d.pos))) f)

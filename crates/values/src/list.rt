@@ -14,18 +14,18 @@ use table::rows::{Row, is_full, put_row};
 use wire::cursor::{Cursor, Shortage};
 use wire::reader::Reader;
 
-// The quick way for a list's texts and booleans, the most frequent of what is no number. Its answer is a word, as those of `quick` are.
+// The quick way for a list's texts and booleans, the most frequent of what is no number.
 #[tactic(auto, using(crate::proofs::Quickly::quick_laws))]
-fn element(r: Reader, t: &mut [u64], kind: u8, id: u64, at: Cursor, n: usize) -> usize
+fn element(r: Reader, t: &mut [u64], kind: u8, id: u64, at: Cursor, n: usize) -> Option<usize>
     ensures { Quickly (scalar_of r.entry.bytes.now r.entry.set kind id at (room t.old n)) 1 n at.origin t.old t.new result }
 {
     if is_full(t, n) {
-        return 0;
+        return None;
     }
     match kind {
         STRING8 => quick::text_at(r, t, id, at, n),
         BOOLEAN => quick::boolean_at(r, t, id, at, n),
-        _ => 0,
+        _ => None,
     }
 }
 
@@ -36,8 +36,7 @@ fn each(r: Reader, t: &mut [u64], kind: u8, count: u64, at: Cursor, n: usize) ->
     let mut c = at;
     let mut m = n;
     for i in 0..count {
-        let past = element(r, t, kind, i, c, m);
-        if 0 < past {
+        if let Some(past) = element(r, t, kind, i, c, m) {
             c = Cursor::new(past, c.origin);
             m += 1;
             continue;
@@ -51,8 +50,7 @@ fn each(r: Reader, t: &mut [u64], kind: u8, count: u64, at: Cursor, n: usize) ->
 fn elements(r: Reader, t: &mut [u64], kind: u8, count: u64, at: Cursor, n: usize) -> Out
     ensures { Done (elements_from r.entry.bytes.now r.entry.set kind count 0 at (room t.old n)) n t.old t.new result }
 {
-    let past = quick::numbers_at(r, t, kind, count, at, n);
-    if 0 < past {
+    if let Some(past) = quick::numbers_at(r, t, kind, count, at, n) {
         return Ok((Cursor::new(past, at.origin), n + (count as usize)));
     }
     each(r, t, kind, count, at, n)

@@ -1,10 +1,9 @@
 // The quick way: numbers, booleans and texts that are there whole, and whose rows have a place. Most members and elements are such. It reads by the same
-// rules as `scalar`, and leaves to that whatever it does not take. A function here tells the position after what it took; or 0, and nothing is done.
-// A word and not an Option: a call hands a word back in a register.
+// rules as `scalar`, and leaves to that whatever it does not take. A function here tells the position after what it took; or None, and nothing is done.
 // The laws of the quick way close what is asked of its functions, most of them without an answer.
 #![tactic(auto, using(crate::proofs::Quickly::quick_laws), unfolding(crate::specs::Code::Quick::is_number, crate::specs::Code::Quick::is_taken))]
 
-ghost use Rattle.std.specs.Prelude.{◌≡◌, Bool, true, false, ◌+◌, ◌*◌, ◌≤◌, ◌<◌, length};
+ghost use Rattle.std.specs.Prelude.{◌≡◌, ℕ, Some, Bool, true, false, ◌+◌, ◌*◌, ◌≤◌, ◌<◌, length};
 ghost use Rattle.kinds.specs.Kinds.{align_of, stored_of};
 ghost use Rattle.table.specs.Rows.{capacity, room, row_at, no_room};
 ghost use Rattle.table.specs.Code.Rows.{Filled};
@@ -43,13 +42,13 @@ fn any_number_at(
     id: u64,
     at: Cursor,
     n: usize,
-) -> usize
+) -> Option<usize>
     requires { (no_room t.old n ≡ false) × (is_number kind ≡ true) × (stored ≡ stored_of kind) × (width ≡ align_of kind) }
     ensures { Quickly (scalar_of r.entry.bytes.now r.entry.set kind id at (room t.old n)) 1 n at.origin t.old t.new result }
 {
     let q = at.start(r.bytes, r.set.version, width);
     if r.bytes.len() < q + width {
-        return 0;
+        return None;
     }
     let v = from_bytes(r.bytes, r.set.order, q, width);
     let row = Row {
@@ -60,11 +59,17 @@ fn any_number_at(
         place: q as u64,
     };
     put_row(t, n, row);
-    q + width
+    Some(q + width)
 }
 
 // A number of a kind that is known when this is compiled, and so are its width and its row's kind, which the table says.
-fn number_at<const KIND: u8>(r: Reader, t: &mut [u64], id: u64, at: Cursor, n: usize) -> usize
+fn number_at<const KIND: u8>(
+    r: Reader,
+    t: &mut [u64],
+    id: u64,
+    at: Cursor,
+    n: usize,
+) -> Option<usize>
     requires { (no_room t.old n ≡ false) × (is_number KIND ≡ true) }
     ensures { Quickly (scalar_of r.entry.bytes.now r.entry.set KIND id at (room t.old n)) 1 n at.origin t.old t.new result }
 {
@@ -74,17 +79,17 @@ fn number_at<const KIND: u8>(r: Reader, t: &mut [u64], id: u64, at: Cursor, n: u
 }
 
 // A boolean, where it is 0 or 1.
-pub fn boolean_at(r: Reader, t: &mut [u64], id: u64, at: Cursor, n: usize) -> usize
+pub fn boolean_at(r: Reader, t: &mut [u64], id: u64, at: Cursor, n: usize) -> Option<usize>
     requires { no_room t.old n ≡ false }
     ensures { Quickly (scalar_of r.entry.bytes.now r.entry.set 1 id at (room t.old n)) 1 n at.origin t.old t.new result }
 {
     let q = at.start(r.bytes, r.set.version, widths::BOOLEAN);
     if r.bytes.len() < q + widths::BOOLEAN {
-        return 0;
+        return None;
     }
     let v = from_bytes(r.bytes, r.set.order, q, widths::BOOLEAN);
     if 1 < v {
-        return 0;
+        return None;
     }
     let row = Row {
         kind: stored::BOOLEAN,
@@ -94,28 +99,28 @@ pub fn boolean_at(r: Reader, t: &mut [u64], id: u64, at: Cursor, n: usize) -> us
         place: q as u64,
     };
     put_row(t, n, row);
-    q + widths::BOOLEAN
+    Some(q + widths::BOOLEAN)
 }
 
 // A text, where it is well-formed.
-pub fn text_at(r: Reader, t: &mut [u64], id: u64, at: Cursor, n: usize) -> usize
+pub fn text_at(r: Reader, t: &mut [u64], id: u64, at: Cursor, n: usize) -> Option<usize>
     requires { no_room t.old n ≡ false }
     ensures { Quickly (scalar_of r.entry.bytes.now r.entry.set 16 id at (room t.old n)) 1 n at.origin t.old t.new result }
 {
     let q = at.start(r.bytes, r.set.version, 4);
     if r.bytes.len() < q + 4 {
-        return 0;
+        return None;
     }
     let size = from_bytes(r.bytes, r.set.order, q, 4) as usize;
     let start = q + 4;
     if size == 0 {
-        return 0;
+        return None;
     }
     if r.bytes.len() - start < size {
-        return 0;
+        return None;
     }
     if !is_text(r.bytes, start, size - 1) {
-        return 0;
+        return None;
     }
     let row = Row {
         kind: stored::STRING8,
@@ -125,16 +130,18 @@ pub fn text_at(r: Reader, t: &mut [u64], id: u64, at: Cursor, n: usize) -> usize
         place: q as u64,
     };
     put_row(t, n, row);
-    start + size
+    Some(start + size)
 }
 
 // A value of this kind. In an arm the kind is known, and so are its width and its row's kind, which the table says: looked up when this is compiled, they cost
-// nothing, and a number is taken with two thirds of the instructions that four arms by width would take, each look-up made anew.
-pub fn value_at(r: Reader, t: &mut [u64], kind: u8, id: u64, at: Cursor, n: usize) -> usize
-    ensures { Quickly (scalar_of r.entry.bytes.now r.entry.set kind id at (room t.old n)) 1 n at.origin t.old t.new result × (0 < result → is_taken kind ≡ true) }
+// nothing, and a number is taken with two thirds of the instructions that four arms by width would take, each look-up made anew. The hint has the compiler take it
+// into each loop of members: a call for each member would cost as much as the member.
+#[inline(always)]
+pub fn value_at(r: Reader, t: &mut [u64], kind: u8, id: u64, at: Cursor, n: usize) -> Option<usize>
+    ensures { Quickly (scalar_of r.entry.bytes.now r.entry.set kind id at (room t.old n)) 1 n at.origin t.old t.new result × ((p : ℕ) → result ≡ Some p → is_taken kind ≡ true) }
 {
     if is_full(t, n) {
-        return 0;
+        return None;
     }
     match kind {
         BOOLEAN => boolean_at(r, t, id, at, n),
@@ -151,45 +158,18 @@ pub fn value_at(r: Reader, t: &mut [u64], kind: u8, id: u64, at: Cursor, n: usiz
         UINT8 => number_at::<UINT8>(r, t, id, at, n),
         CHAR8 => number_at::<CHAR8>(r, t, id, at, n),
         STRING8 => text_at(r, t, id, at, n),
-        _ => 0,
-    }
-}
-
-// The same once more, for members that were found: the compiler takes a function into a loop where nothing else calls it, and a call for
-// each member would cost as much as the member.
-pub fn found_value_at(r: Reader, t: &mut [u64], kind: u8, id: u64, found: Cursor, n: usize) -> usize
-    ensures { Quickly (scalar_of r.entry.bytes.now r.entry.set kind id found (room t.old n)) 1 n found.origin t.old t.new result × (0 < result → is_taken kind ≡ true) }
-{
-    if is_full(t, n) {
-        return 0;
-    }
-    match kind {
-        BOOLEAN => boolean_at(r, t, id, found, n),
-        BYTE => number_at::<BYTE>(r, t, id, found, n),
-        INT16 => number_at::<INT16>(r, t, id, found, n),
-        INT32 => number_at::<INT32>(r, t, id, found, n),
-        INT64 => number_at::<INT64>(r, t, id, found, n),
-        UINT16 => number_at::<UINT16>(r, t, id, found, n),
-        UINT32 => number_at::<UINT32>(r, t, id, found, n),
-        UINT64 => number_at::<UINT64>(r, t, id, found, n),
-        FLOAT32 => number_at::<FLOAT32>(r, t, id, found, n),
-        FLOAT64 => number_at::<FLOAT64>(r, t, id, found, n),
-        INT8 => number_at::<INT8>(r, t, id, found, n),
-        UINT8 => number_at::<UINT8>(r, t, id, found, n),
-        CHAR8 => number_at::<CHAR8>(r, t, id, found, n),
-        STRING8 => text_at(r, t, id, found, n),
-        _ => 0,
+        _ => None,
     }
 }
 
 // The same by three arms, with the entries of a number's kind looked up as it runs: for what the members' loops do not take, an optional member or one that a
 // union selects.
-pub fn any_at(r: Reader, t: &mut [u64], kind: u8, id: u64, at: Cursor, n: usize) -> usize
+pub fn any_at(r: Reader, t: &mut [u64], kind: u8, id: u64, at: Cursor, n: usize) -> Option<usize>
     ensures quickly { Quickly (scalar_of r.entry.bytes.now r.entry.set kind id at (room t.old n)) 1 n at.origin t.old t.new result }
-    ensures taken { 0 < result → is_taken kind ≡ true }
+    ensures taken { (p : ℕ) → result ≡ Some p → is_taken kind ≡ true }
 {
     if is_full(t, n) {
-        return 0;
+        return None;
     }
     match kind {
         BOOLEAN => boolean_at(r, t, id, at, n),
@@ -200,7 +180,7 @@ pub fn any_at(r: Reader, t: &mut [u64], kind: u8, id: u64, at: Cursor, n: usize)
                 let own_width = kinds::align_of(kind) as usize;
                 return any_number_at(r, t, kind, row_kind, own_width, id, at, n);
             }
-            0
+            None
         }
     }
 }
@@ -257,56 +237,61 @@ fn fill_by_width(
     }
 }
 
-// The position after `count` numbers from pos on, where the data has them and the table a place for their rows; else 0.
+// The position after `count` numbers from pos on, where the data has them and the table a place for their rows; else None.
 #[tactic(auto, using(crate::proofs::Runs::there_laws))]
-fn end_of(r: Reader, t: &[u64], width: usize, count: u64, pos: usize, n: usize) -> usize
+fn end_of(r: Reader, t: &[u64], width: usize, count: u64, pos: usize, n: usize) -> Option<usize>
     requires { (0 < width) × (width ≤ 8) }
     ensures { WhereThere r.entry.bytes.now t.now width count pos n result }
 {
     let rows = t.len() / table::rows::WIDTH;
     let end = r.bytes.len();
     if (count == 0) | (0xFFFF_FFFF < count) {
-        return 0;
+        return None;
     }
     if end < pos {
-        return 0;
+        return None;
     }
     if rows < n {
-        return 0;
+        return None;
     }
     let k = count as usize;
     if end - pos < k * width {
-        return 0;
+        return None;
     }
     if rows - n < k {
-        return 0;
+        return None;
     }
-    pos + k * width
+    Some(pos + k * width)
 }
 
 // The numbers of a whole list; of an empty one whatever they would be.
-pub fn numbers_at(r: Reader, t: &mut [u64], kind: u8, count: u64, at: Cursor, n: usize) -> usize
+pub fn numbers_at(
+    r: Reader,
+    t: &mut [u64],
+    kind: u8,
+    count: u64,
+    at: Cursor,
+    n: usize,
+) -> Option<usize>
     ensures { Quickly (elements_from r.entry.bytes.now r.entry.set kind count 0 at (room t.old n)) count n at.origin t.old t.new result }
 {
     if count == 0 {
-        return at.pos;
+        return Some(at.pos);
     }
     if !is_number(kind) {
-        return 0;
+        return None;
     }
     if at.pos < at.origin {
-        return 0;
+        return None;
     }
     let width = kinds::align_of(kind) as usize;
     let stored = kinds::stored_of(kind) as u64;
     let Ok(c) = at.align(r.bytes, r.set.version, width) else {
-        return 0;
+        return None;
     };
-    let end = end_of(r, t, width, count, c.pos, n);
-    if 0 < end {
-        fill_by_width(r, t, kind, stored, width, count as usize, c.pos, n);
-    }
-    end
+    let end = end_of(r, t, width, count, c.pos, n)?;
+    fill_by_width(r, t, kind, stored, width, count as usize, c.pos, n);
+    Some(end)
 }
 
 // A list: its row, once its numbers have theirs. A number has a byte at least, so where the data has fewer bytes it has not all of them; and the block that is
@@ -319,30 +304,28 @@ pub fn list_at(
     count: u64,
     at: Cursor,
     n: usize,
-) -> usize
-    ensures { ((bytes : Bool) → Quickly (plain_of bytes r.entry.bytes.now r.entry.set kind id count at (room t.old n)) (1 + count) n at.origin t.old t.new result) × (0 < result → (row_at t.new n).b ≡ count) }
+) -> Option<usize>
+    ensures { ((bytes : Bool) → Quickly (plain_of bytes r.entry.bytes.now r.entry.set kind id count at (room t.old n)) (1 + count) n at.origin t.old t.new result) × ((p : ℕ) → result ≡ Some p → (row_at t.new n).b ≡ count) }
 {
     let from = at.pos;
     let end = r.bytes.len();
     if is_full(t, n) {
-        return 0;
+        return None;
     }
     if end < from {
-        return 0;
+        return None;
     }
     if ((end - from) as u64) < count {
-        return 0;
+        return None;
     }
-    let past = numbers_at(r, t, kind, count, at, n + 1);
-    if 0 < past {
-        let row = Row {
-            kind: kinds::stored_of(SEQUENCE) as u64,
-            id,
-            a: kinds::stored_of(kind) as u64,
-            b: count,
-            place: from as u64,
-        };
-        put_row(t, n, row);
-    }
-    past
+    let past = numbers_at(r, t, kind, count, at, n + 1)?;
+    let row = Row {
+        kind: kinds::stored_of(SEQUENCE) as u64,
+        id,
+        a: kinds::stored_of(kind) as u64,
+        b: count,
+        place: from as u64,
+    };
+    put_row(t, n, row);
+    Some(past)
 }

@@ -18,7 +18,7 @@ use Rattle.reader.proofs.StructureSteps.{fmembers_start, fmembers_turn, fmembers
 use Rattle.reader.proofs.UnionSteps.{chosen_failed, union_empty, union_failed, union_read}
 use Rattle.reader.proofs.ValueSteps.{list_unread, list_uncounted, list_there, list_rest}
 use Rattle.reader.proofs.Deserializer.+reading.Goals as goal
-use Rattle.reader.proofs.Deserializer.+reading.Goals.{fmember-then-is_there+then-not-m+else-past-gt0+else-opens, fmember-then-is_there+else-not-m, fmember-else-is_there}
+use Rattle.reader.proofs.Deserializer.+reading.Goals.{fmember-then-is_there+then-not-m+in_default+else-opens, fmember-then-is_there+else-not-m, fmember-else-is_there}
 
 pub as_nested-loop-i-init : goal.as_nested-loop-i-init
 as_nested-loop-i-init t c = run_start _ _ _ _ _ _ _ _
@@ -87,19 +87,19 @@ pub fmember-head_there-m-requires : goal.fmember-head_there-m-requires
 fmember-head_there-m-requires t c = omega (arith, is_inside _ _ _ _ c.is_there.ensures c.if-is_there.true)
 
 pub fmember-overflow_add-result : goal.fmember-overflow_add-result
-fmember-overflow_add-result t c = fmember_next _ _ _ _ _ _ _ _ c.head_there-m.ensures c.if-not-m.true c.kind_of-kind.ensures _ _ (rw c.from-id.ensures at c.value_at-past.ensures) c.if-past-gt0.true c.well_formed.1.0.0
+fmember-overflow_add-result t c = fmember_next _ _ _ _ _ _ _ _ c.head_there-m.ensures c.if-not-m.true c.kind_of-kind.ensures _ _ (rw c.from-id.ensures at c.value_at.ensures) c.in-Some.is c.well_formed.1.0.0
 
-pub fmember-returns-then-past-gt0 : goal.fmember-returns-then-past-gt0
-fmember-returns-then-past-gt0 t c = fmember_quick _ _ _ _ _ _ _ _ c.head_there-m.ensures c.if-not-m.true c.kind_of-kind.ensures _ _ (rw c.from-id.ensures at c.value_at-past.ensures) _ c.if-past-gt0.true c.new.ensures
+pub fmember-returns-in-Some : goal.fmember-returns-in-Some
+fmember-returns-in-Some t c = fmember_quick _ _ _ _ _ _ _ _ c.head_there-m.ensures c.if-not-m.true c.kind_of-kind.ensures _ _ (rw c.from-id.ensures at c.value_at.ensures) _ c.in-Some.is c.new.ensures
 
 pub fmember-returns-then-opens : goal.fmember-returns-then-opens
-fmember-returns-then-opens t c = fmember_left _ _ _ _ _ _ _ _ c.head_there-m.ensures c.if-not-m.true c.kind_of-kind.ensures _ _ (rw c.from-id.ensures at c.value_at-past.ensures) _ c.if-past-gt0.false (fmember_opened _ _ _ _ _ _ _ _ _ _ _ _ c.head_there-m.ensures.type (c.from-id.ensures ∙ c.head_there-m.ensures.id) (member_kind _ _ _ _ _ c.head_there-m.ensures.type c.kind_of-kind.ensures) _ c.opens.ensures c.if-opens.true _ c.head_there-m.ensures.option c.if-not-m.true _ _ c.single.ensures)
+fmember-returns-then-opens t c = fmember_left _ _ _ _ _ _ _ _ c.head_there-m.ensures c.if-not-m.true c.kind_of-kind.ensures _ _ (rw c.from-id.ensures at c.value_at.ensures) _ c.in_default.is (fmember_opened _ _ _ _ _ _ _ _ _ _ _ _ c.head_there-m.ensures.type (c.from-id.ensures ∙ c.head_there-m.ensures.id) (member_kind _ _ _ _ _ c.head_there-m.ensures.type c.kind_of-kind.ensures) _ c.opens.ensures c.if-opens.true _ c.head_there-m.ensures.option c.if-not-m.true _ _ c.single.ensures)
 
 pub fmember-returns : goal.fmember-returns
 fmember-returns t c =
     elim c.if-is_there.branch [
-      | fmember-then-is_there+then-not-m+else-past-gt0+else-opens w ↦
-          fmember_left _ _ _ _ _ _ _ _ w.head_there-m.ensures w.if-not-m.true w.kind_of-kind.ensures _ _ (rw w.from-id.ensures at w.value_at-past.ensures) _ w.if-past-gt0.false
+      | fmember-then-is_there+then-not-m+in_default+else-opens w ↦
+          fmember_left _ _ _ _ _ _ _ _ w.head_there-m.ensures w.if-not-m.true w.kind_of-kind.ensures _ _ (rw w.from-id.ensures at w.value_at.ensures) _ w.in_default.is
           (fmember_from _ _ _ _ _ _ _ _ w.t-is c.rest.ensures)
       | fmember-then-is_there+else-not-m w ↦ fmember_from _ _ _ _ _ _ _ _ w.t-is c.rest.ensures
       | fmember-else-is_there w ↦ fmember_from _ _ _ _ _ _ _ _ w.t-is c.rest.ensures
@@ -130,13 +130,13 @@ pub rest-returns-then-m : goal.rest-returns-then-m
 rest-returns-then-m t c = search (rules, rest_laws)
 
 pub rest-overflow_add-result : goal.rest-overflow_add-result
-rest-overflow_add-result t c = rows_next _ _ _ _ _ _ _ _ _ _ c.list-past.ensures c.if-past-gt0.true c.well_formed.1.0.0
+rest-overflow_add-result t c = rows_next _ _ _ _ _ _ _ _ _ _ c.list.ensures c.in-Some.is c.well_formed.1.0.0
 
-pub rest-overflow_add-result-then-past-gt0 : goal.rest-overflow_add-result-then-past-gt0
-rest-overflow_add-result-then-past-gt0 t c = rows_past _ _ _ _ _ _ _ _ _ _ c.list-past.ensures c.if-past-gt0.true c.well_formed.1.0.0 _ c.row_at-rows.ensures
+pub rest-overflow_add-result-in-Some : goal.rest-overflow_add-result-in-Some
+rest-overflow_add-result-in-Some t c = rows_past _ _ _ _ _ _ _ _ _ _ c.list.ensures c.in-Some.is c.well_formed.1.0.0 _ c.row_at-rows.ensures
 
-pub rest-returns-then-past-gt0 : goal.rest-returns-then-past-gt0
-rest-returns-then-past-gt0 t c = search (rules, rest_laws, c.from-id.ensures ∙ c.head_at-m.ensures.id)
+pub rest-returns-in-Some : goal.rest-returns-in-Some
+rest-returns-in-Some t c = search (rules, rest_laws, c.from-id.ensures ∙ c.head_at-m.ensures.id)
 
 pub rest-returns : goal.rest-returns
 rest-returns t c = search (rules, rest_laws, c.from-id.ensures ∙ c.head_at-m.ensures.id)
@@ -225,8 +225,8 @@ value-returns-then-kind t c = search (rules, value_laws)
 pub value-overflow_add-result : goal.value-overflow_add-result
 value-overflow_add-result t c = search (rules, value_laws)
 
-pub value-returns-then-past-gt0 : goal.value-returns-then-past-gt0
-value-returns-then-past-gt0 t c = search (rules, value_laws)
+pub value-returns-in-Some : goal.value-returns-in-Some
+value-returns-in-Some t c = search (rules, value_laws)
 
 pub value-returns : goal.value-returns
 value-returns t c = search (rules, value_laws)
@@ -244,10 +244,10 @@ pub listed-returns-in_err-count : goal.listed-returns-in_err-count
 listed-returns-in_err-count t c = rw (exits c.from_residual-in_err-count.ensures.1) (list_uncounted _ _ _ _ _ _ _ _ _ _ _ c.primitive_element-primitive.ensures _ c.contents_at.ensures _ _ c.in_ok-d.was _ c.cut.ensures _ _ c.is_sequence.ensures (c.from.ensures ∙ c.bound.ensures) _ c.count_at.ensures _ c.in_err-count.was)
 
 pub mmember-overflow_add-result : goal.mmember-overflow_add-result
-mmember-overflow_add-result t c = found_fits _ _ _ _ _ _ _ _ _ _ _ refl c.kind_found-kind.ensures (c.from.ensures ∙ c.id-wanted.ensures) _ _ c.any_at-past.ensures.quickly c.any_at-past.ensures.taken c.if-past-gt0.true c.well_formed.1.0.0
+mmember-overflow_add-result t c = found_fits _ _ _ _ _ _ _ _ _ _ _ refl c.kind_found-kind.ensures (c.from.ensures ∙ c.id-wanted.ensures) _ _ c.any_at.ensures.quickly c.any_at.ensures.taken c.in-Some.is c.well_formed.1.0.0
 
-pub mmember-returns-then-past-gt0 : goal.mmember-returns-then-past-gt0
-mmember-returns-then-past-gt0 t c = mmember_came _ _ _ _ _ _ _ _ _ _ c.id-wanted.ensures _ (sym (found_at _ _ _ c.value_at-d.ensures (c.look_up.ensures.found _ _ c.in-Found.is))) _ _ _ refl _ (own_at _ _ _ _ _ c.value_at-d.ensures c.cut.ensures) _ _ (found_done _ _ _ _ _ _ _ _ _ _ _ refl c.kind_found-kind.ensures (c.from.ensures ∙ c.id-wanted.ensures) _ _ c.any_at-past.ensures.quickly c.any_at-past.ensures.taken c.if-past-gt0.true _ _) _ (is_back _ _ _)
+pub mmember-returns-in-Some : goal.mmember-returns-in-Some
+mmember-returns-in-Some t c = mmember_came _ _ _ _ _ _ _ _ _ _ c.id-wanted.ensures _ (sym (found_at _ _ _ c.value_at-d.ensures (c.look_up.ensures.found _ _ c.in-Found.is))) _ _ _ refl _ (own_at _ _ _ _ _ c.value_at-d.ensures c.cut.ensures) _ _ (found_done _ _ _ _ _ _ _ _ _ _ _ refl c.kind_found-kind.ensures (c.from.ensures ∙ c.id-wanted.ensures) _ _ c.any_at.ensures.quickly c.any_at.ensures.taken c.in-Some.is _ _) _ (is_back _ _ _)
 
 pub mmember-returns-in-Absent : goal.mmember-returns-in-Absent
 mmember-returns-in-Absent t c = mmember_absent _ _ _ _ _ _ _ _ _ _ c.id-wanted.ensures _ (sym (c.look_up.ensures.absent c.in-Absent.is)) _ refl
@@ -268,7 +268,7 @@ pub mmembers-loop-p-preserved-in_default : goal.mmembers-loop-p-preserved-in_def
 mmembers-loop-p-preserved-in_default t c = looked_turn c.loop-p.invariant _ _ c.in-Some.ensures.steps c.mmember.ensures c.in_ok-m.was c.loop-p.invariant.hint
 
 pub mmembers-loop-p-preserved : goal.mmembers-loop-p-preserved
-mmembers-loop-p-preserved t c = looked_turn (found_still c.loop-p.invariant _ _ c.in-Some.ensures.steps _ _ _ _ (found_taken _ _ _ _ _ _ _ _ _ _ _ refl c.kind_found-kind.ensures (c.from-number.ensures ∙ c.id-wanted.ensures) _ _ c.found_value_at-past.ensures.0 c.found_value_at-past.ensures.1) c.if-past-gt0.false) _ _ c.in-Some.ensures.steps (found_came (found_still c.loop-p.invariant _ _ c.in-Some.ensures.steps _ _ _ _ (found_taken _ _ _ _ _ _ _ _ _ _ _ refl c.kind_found-kind.ensures (c.from-number.ensures ∙ c.id-wanted.ensures) _ _ c.found_value_at-past.ensures.0 c.found_value_at-past.ensures.1) c.if-past-gt0.false) _ _ c.in-Some.ensures.steps (found_at _ _ _ c.value_at-c.ensures (c.ahead.ensures.found _ (looked_aligned c.loop-p.invariant _ _ c.in-Some.ensures.steps) c.loop-p.invariant.hint _ c.in-Some-ahead.is)) (own_at _ _ _ _ _ c.value_at-c.ensures c.cut.ensures) c.found-read.ensures c.came_back-else-opens.ensures) c.in_ok-m-3.was (hint_on _ _ _ _ c.in-Some-ahead.ahead c.hint_after-h.ensures c.id-wanted.ensures (c.ahead.ensures.on _ c.loop-p.invariant.hint _ c.in-Some-ahead.is))
+mmembers-loop-p-preserved t c = looked_turn (found_still c.loop-p.invariant _ _ c.in-Some.ensures.steps _ _ _ _ (found_taken _ _ _ _ _ _ _ _ _ _ _ refl c.kind_found-kind.ensures (c.from-number.ensures ∙ c.id-wanted.ensures) _ _ c.value_at.ensures.0 c.value_at.ensures.1) c.in_default-value_at.is) _ _ c.in-Some.ensures.steps (found_came (found_still c.loop-p.invariant _ _ c.in-Some.ensures.steps _ _ _ _ (found_taken _ _ _ _ _ _ _ _ _ _ _ refl c.kind_found-kind.ensures (c.from-number.ensures ∙ c.id-wanted.ensures) _ _ c.value_at.ensures.0 c.value_at.ensures.1) c.in_default-value_at.is) _ _ c.in-Some.ensures.steps (found_at _ _ _ c.value_at-c.ensures (c.ahead.ensures.found _ (looked_aligned c.loop-p.invariant _ _ c.in-Some.ensures.steps) c.loop-p.invariant.hint _ c.in-Some-ahead.is)) (own_at _ _ _ _ _ c.value_at-c.ensures c.cut.ensures) c.found-read.ensures c.came_back-else-opens.ensures) c.in_ok-m-3.was (hint_on _ _ _ _ c.in-Some-ahead.ahead c.hint_after-h.ensures c.id-wanted.ensures (c.ahead.ensures.on _ c.loop-p.invariant.hint _ c.in-Some-ahead.is))
 
 pub parts-returns-in_default : goal.parts-returns-in_default
 parts-returns-in_default t c = union_empty _ _ _ _ _ _ _ c.members.ensures _ _ _ _ c.in_default.ensures.steps.0
@@ -279,20 +279,20 @@ parts-returns-in_err-d t c = rw (exits c.from_residual.ensures.1) (union_failed 
 pub parts-returns : goal.parts-returns
 parts-returns t c = union_read _ _ _ _ _ _ _ c.members.ensures _ _ _ _ _ _ c.in-Some.ensures.steps _ _ c.first.ensures _ _ c.in_ok-d.was _ c.discriminator_at-v.ensures _ _ c.chosen.ensures
 
-pub mmember-returns-else-past-gt0 : goal.mmember-returns-else-past-gt0
-mmember-returns-else-past-gt0 t c = mmember_came _ _ _ _ _ _ _ _ _ _ c.id-wanted.ensures _ (sym (found_at _ _ _ c.value_at-d.ensures (c.look_up.ensures.found _ _ c.in-Found.is))) _ _ _ refl _ (own_at _ _ _ _ _ c.value_at-d.ensures c.cut.ensures) _ _ (found_left _ _ _ _ _ _ _ _ _ _ _ refl c.kind_found-kind.ensures (c.from.ensures ∙ c.id-wanted.ensures) _ _ c.any_at-past.ensures.quickly c.any_at-past.ensures.taken c.if-past-gt0.false _ _ c.found.ensures) _ c.came_back.ensures
+pub mmember-returns-in_default : goal.mmember-returns-in_default
+mmember-returns-in_default t c = mmember_came _ _ _ _ _ _ _ _ _ _ c.id-wanted.ensures _ (sym (found_at _ _ _ c.value_at-d.ensures (c.look_up.ensures.found _ _ c.in-Found.is))) _ _ _ refl _ (own_at _ _ _ _ _ c.value_at-d.ensures c.cut.ensures) _ _ (found_left _ _ _ _ _ _ _ _ _ _ _ refl c.kind_found-kind.ensures (c.from.ensures ∙ c.id-wanted.ensures) _ _ c.any_at.ensures.quickly c.any_at.ensures.taken c.in_default.is _ _ c.found.ensures) _ c.came_back.ensures
 
 pub mmembers-overflow_add-m : goal.mmembers-overflow_add-m
-mmembers-overflow_add-m t c = found_next c.loop-p.invariant _ _ c.in-Some.ensures.steps _ _ _ _ (found_taken _ _ _ _ _ _ _ _ _ _ _ refl c.kind_found-kind.ensures (c.from-number.ensures ∙ c.id-wanted.ensures) _ _ c.found_value_at-past.ensures.0 c.found_value_at-past.ensures.1) c.if-past-gt0.true c.well_formed.1.0.0
+mmembers-overflow_add-m t c = found_next c.loop-p.invariant _ _ c.in-Some.ensures.steps _ _ _ _ (found_taken _ _ _ _ _ _ _ _ _ _ _ refl c.kind_found-kind.ensures (c.from-number.ensures ∙ c.id-wanted.ensures) _ _ c.value_at.ensures.0 c.value_at.ensures.1) c.in-Some-value_at.is c.well_formed.1.0.0
 
-pub mmembers-loop-p-preserved-then-past-gt0 : goal.mmembers-loop-p-preserved-then-past-gt0
-mmembers-loop-p-preserved-then-past-gt0 t c = found_quick c.loop-p.invariant _ _ c.in-Some.ensures.steps (found_at _ _ _ c.value_at-c.ensures (c.ahead.ensures.found _ (looked_aligned c.loop-p.invariant _ _ c.in-Some.ensures.steps) c.loop-p.invariant.hint _ c.in-Some-ahead.is)) (own_at _ _ _ _ _ c.value_at-c.ensures c.cut.ensures) _ _ (found_taken _ _ _ _ _ _ _ _ _ _ _ refl c.kind_found-kind.ensures (c.from-number.ensures ∙ c.id-wanted.ensures) _ _ c.found_value_at-past.ensures.0 c.found_value_at-past.ensures.1) c.if-past-gt0.true (hint_on _ _ _ _ c.in-Some-ahead.ahead c.hint_after-h.ensures c.id-wanted.ensures (c.ahead.ensures.on _ c.loop-p.invariant.hint _ c.in-Some-ahead.is))
+pub mmembers-loop-p-preserved-in-Some-value_at : goal.mmembers-loop-p-preserved-in-Some-value_at
+mmembers-loop-p-preserved-in-Some-value_at t c = found_quick c.loop-p.invariant _ _ c.in-Some.ensures.steps (found_at _ _ _ c.value_at-c.ensures (c.ahead.ensures.found _ (looked_aligned c.loop-p.invariant _ _ c.in-Some.ensures.steps) c.loop-p.invariant.hint _ c.in-Some-ahead.is)) (own_at _ _ _ _ _ c.value_at-c.ensures c.cut.ensures) _ _ (found_taken _ _ _ _ _ _ _ _ _ _ _ refl c.kind_found-kind.ensures (c.from-number.ensures ∙ c.id-wanted.ensures) _ _ c.value_at.ensures.0 c.value_at.ensures.1) c.in-Some-value_at.is (hint_on _ _ _ _ c.in-Some-ahead.ahead c.hint_after-h.ensures c.id-wanted.ensures (c.ahead.ensures.on _ c.loop-p.invariant.hint _ c.in-Some-ahead.is))
 
 pub mmembers-loop-p-preserved-then-opens : goal.mmembers-loop-p-preserved-then-opens
-mmembers-loop-p-preserved-then-opens t c = looked_turn (found_still c.loop-p.invariant _ _ c.in-Some.ensures.steps _ _ _ _ (found_taken _ _ _ _ _ _ _ _ _ _ _ refl c.kind_found-kind.ensures (c.from-number.ensures ∙ c.id-wanted.ensures) _ _ c.found_value_at-past.ensures.0 c.found_value_at-past.ensures.1) c.if-past-gt0.false) _ _ c.in-Some.ensures.steps (found_came (found_still c.loop-p.invariant _ _ c.in-Some.ensures.steps _ _ _ _ (found_taken _ _ _ _ _ _ _ _ _ _ _ refl c.kind_found-kind.ensures (c.from-number.ensures ∙ c.id-wanted.ensures) _ _ c.found_value_at-past.ensures.0 c.found_value_at-past.ensures.1) c.if-past-gt0.false) _ _ c.in-Some.ensures.steps (found_at _ _ _ c.value_at-c.ensures (c.ahead.ensures.found _ (looked_aligned c.loop-p.invariant _ _ c.in-Some.ensures.steps) c.loop-p.invariant.hint _ c.in-Some-ahead.is)) (own_at _ _ _ _ _ c.value_at-c.ensures c.cut.ensures) (found_opened _ _ _ _ _ _ _ _ _ _ _ _ c.type_index-ty.ensures.0 (c.from-number.ensures ∙ c.id-wanted.ensures) c.kind_found-kind.ensures _ c.opens.ensures c.if-opens.true _ _ _ c.as_nested-read.ensures) c.came_back.ensures) c.in_ok-m-2.was (hint_on _ _ _ _ c.in-Some-ahead.ahead c.hint_after-h.ensures c.id-wanted.ensures (c.ahead.ensures.on _ c.loop-p.invariant.hint _ c.in-Some-ahead.is))
+mmembers-loop-p-preserved-then-opens t c = looked_turn (found_still c.loop-p.invariant _ _ c.in-Some.ensures.steps _ _ _ _ (found_taken _ _ _ _ _ _ _ _ _ _ _ refl c.kind_found-kind.ensures (c.from-number.ensures ∙ c.id-wanted.ensures) _ _ c.value_at.ensures.0 c.value_at.ensures.1) c.in_default-value_at.is) _ _ c.in-Some.ensures.steps (found_came (found_still c.loop-p.invariant _ _ c.in-Some.ensures.steps _ _ _ _ (found_taken _ _ _ _ _ _ _ _ _ _ _ refl c.kind_found-kind.ensures (c.from-number.ensures ∙ c.id-wanted.ensures) _ _ c.value_at.ensures.0 c.value_at.ensures.1) c.in_default-value_at.is) _ _ c.in-Some.ensures.steps (found_at _ _ _ c.value_at-c.ensures (c.ahead.ensures.found _ (looked_aligned c.loop-p.invariant _ _ c.in-Some.ensures.steps) c.loop-p.invariant.hint _ c.in-Some-ahead.is)) (own_at _ _ _ _ _ c.value_at-c.ensures c.cut.ensures) (found_opened _ _ _ _ _ _ _ _ _ _ _ _ c.type_index-ty.ensures.0 (c.from-number.ensures ∙ c.id-wanted.ensures) c.kind_found-kind.ensures _ c.opens.ensures c.if-opens.true _ _ _ c.as_nested-read.ensures) c.came_back.ensures) c.in_ok-m-2.was (hint_on _ _ _ _ c.in-Some-ahead.ahead c.hint_after-h.ensures c.id-wanted.ensures (c.ahead.ensures.on _ c.loop-p.invariant.hint _ c.in-Some-ahead.is))
 
 pub mmembers-returns-in_err-m-2 : goal.mmembers-returns-in_err-m-2
-mmembers-returns-in_err-m-2 t c = rw (exits c.from_residual-in_err-m-2.ensures.1) (looked_failed (found_still c.loop-p.invariant _ _ c.in-Some.ensures.steps _ _ _ _ (found_taken _ _ _ _ _ _ _ _ _ _ _ refl c.kind_found-kind.ensures (c.from-number.ensures ∙ c.id-wanted.ensures) _ _ c.found_value_at-past.ensures.0 c.found_value_at-past.ensures.1) c.if-past-gt0.false) _ _ c.in-Some.ensures.steps (found_came (found_still c.loop-p.invariant _ _ c.in-Some.ensures.steps _ _ _ _ (found_taken _ _ _ _ _ _ _ _ _ _ _ refl c.kind_found-kind.ensures (c.from-number.ensures ∙ c.id-wanted.ensures) _ _ c.found_value_at-past.ensures.0 c.found_value_at-past.ensures.1) c.if-past-gt0.false) _ _ c.in-Some.ensures.steps (found_at _ _ _ c.value_at-c.ensures (c.ahead.ensures.found _ (looked_aligned c.loop-p.invariant _ _ c.in-Some.ensures.steps) c.loop-p.invariant.hint _ c.in-Some-ahead.is)) (own_at _ _ _ _ _ c.value_at-c.ensures c.cut.ensures) (found_opened _ _ _ _ _ _ _ _ _ _ _ _ c.type_index-ty.ensures.0 (c.from-number.ensures ∙ c.id-wanted.ensures) c.kind_found-kind.ensures _ c.opens.ensures c.if-opens.true _ _ _ c.as_nested-read.ensures) c.came_back.ensures) _ c.in_err-m-2.was)
+mmembers-returns-in_err-m-2 t c = rw (exits c.from_residual-in_err-m-2.ensures.1) (looked_failed (found_still c.loop-p.invariant _ _ c.in-Some.ensures.steps _ _ _ _ (found_taken _ _ _ _ _ _ _ _ _ _ _ refl c.kind_found-kind.ensures (c.from-number.ensures ∙ c.id-wanted.ensures) _ _ c.value_at.ensures.0 c.value_at.ensures.1) c.in_default-value_at.is) _ _ c.in-Some.ensures.steps (found_came (found_still c.loop-p.invariant _ _ c.in-Some.ensures.steps _ _ _ _ (found_taken _ _ _ _ _ _ _ _ _ _ _ refl c.kind_found-kind.ensures (c.from-number.ensures ∙ c.id-wanted.ensures) _ _ c.value_at.ensures.0 c.value_at.ensures.1) c.in_default-value_at.is) _ _ c.in-Some.ensures.steps (found_at _ _ _ c.value_at-c.ensures (c.ahead.ensures.found _ (looked_aligned c.loop-p.invariant _ _ c.in-Some.ensures.steps) c.loop-p.invariant.hint _ c.in-Some-ahead.is)) (own_at _ _ _ _ _ c.value_at-c.ensures c.cut.ensures) (found_opened _ _ _ _ _ _ _ _ _ _ _ _ c.type_index-ty.ensures.0 (c.from-number.ensures ∙ c.id-wanted.ensures) c.kind_found-kind.ensures _ c.opens.ensures c.if-opens.true _ _ _ c.as_nested-read.ensures) c.came_back.ensures) _ c.in_err-m-2.was)
 
 pub mmembers-returns-in_err-m-3 : goal.mmembers-returns-in_err-m-3
-mmembers-returns-in_err-m-3 t c = rw (exits c.from_residual-in_err-m-3.ensures.1) (looked_failed (found_still c.loop-p.invariant _ _ c.in-Some.ensures.steps _ _ _ _ (found_taken _ _ _ _ _ _ _ _ _ _ _ refl c.kind_found-kind.ensures (c.from-number.ensures ∙ c.id-wanted.ensures) _ _ c.found_value_at-past.ensures.0 c.found_value_at-past.ensures.1) c.if-past-gt0.false) _ _ c.in-Some.ensures.steps (found_came (found_still c.loop-p.invariant _ _ c.in-Some.ensures.steps _ _ _ _ (found_taken _ _ _ _ _ _ _ _ _ _ _ refl c.kind_found-kind.ensures (c.from-number.ensures ∙ c.id-wanted.ensures) _ _ c.found_value_at-past.ensures.0 c.found_value_at-past.ensures.1) c.if-past-gt0.false) _ _ c.in-Some.ensures.steps (found_at _ _ _ c.value_at-c.ensures (c.ahead.ensures.found _ (looked_aligned c.loop-p.invariant _ _ c.in-Some.ensures.steps) c.loop-p.invariant.hint _ c.in-Some-ahead.is)) (own_at _ _ _ _ _ c.value_at-c.ensures c.cut.ensures) c.found-read.ensures c.came_back-else-opens.ensures) _ c.in_err-m-3.was)
+mmembers-returns-in_err-m-3 t c = rw (exits c.from_residual-in_err-m-3.ensures.1) (looked_failed (found_still c.loop-p.invariant _ _ c.in-Some.ensures.steps _ _ _ _ (found_taken _ _ _ _ _ _ _ _ _ _ _ refl c.kind_found-kind.ensures (c.from-number.ensures ∙ c.id-wanted.ensures) _ _ c.value_at.ensures.0 c.value_at.ensures.1) c.in_default-value_at.is) _ _ c.in-Some.ensures.steps (found_came (found_still c.loop-p.invariant _ _ c.in-Some.ensures.steps _ _ _ _ (found_taken _ _ _ _ _ _ _ _ _ _ _ refl c.kind_found-kind.ensures (c.from-number.ensures ∙ c.id-wanted.ensures) _ _ c.value_at.ensures.0 c.value_at.ensures.1) c.in_default-value_at.is) _ _ c.in-Some.ensures.steps (found_at _ _ _ c.value_at-c.ensures (c.ahead.ensures.found _ (looked_aligned c.loop-p.invariant _ _ c.in-Some.ensures.steps) c.loop-p.invariant.hint _ c.in-Some-ahead.is)) (own_at _ _ _ _ _ c.value_at-c.ensures c.cut.ensures) c.found-read.ensures c.came_back-else-opens.ensures) _ c.in_err-m-3.was)

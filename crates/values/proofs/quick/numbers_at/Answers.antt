@@ -1,4 +1,4 @@
-use Rattle.values.proofs.Quickly.{quick_not, quick_zero}
+use Rattle.values.proofs.Quickly.{quick_not}
 use Rattle.values.proofs.Runs.{number_yes, number_some, number_most, there_inside, there_place, run_done}
 use Rattle.values.proofs.Lists.{quick_empty}
 use borrow.Author.Rules.{rules}
@@ -16,17 +16,17 @@ returns-then-at c = search (rules, quick_not)
 pub align-requires : goal.align-requires
 align-requires c = search (rules, number_some)
 
-pub end_of-end-requires : goal.end_of-end-requires
-end_of-end-requires c = search (rules, number_some, number_most)
+pub end_of-requires : goal.end_of-requires
+end_of-requires c = search (rules, number_some, number_most)
 
 pub fill_by_width-requires : goal.fill_by_width-requires
-fill_by_width-requires c = (search (rules, number_yes), search rules, search rules, there_inside _ _ _ _ _ _ _ c.end_of-end.ensures c.if-end-gt0.true, there_place _ _ _ _ _ _ _ c.end_of-end.ensures c.if-end-gt0.true)
+fill_by_width-requires c = (search (rules, number_yes), search rules, search rules, there_inside _ _ _ _ _ _ _ c.end_of.ensures c.in_ok-end.was, there_place _ _ _ _ _ _ _ c.end_of.ensures c.in_ok-end.was)
 
 pub returns-in_default : goal.returns-in_default
 returns-in_default c = search (rules, quick_not)
 
-pub returns-then-end-gt0 : goal.returns-then-end-gt0
-returns-then-end-gt0 c = search (rules, number_yes, run_done)
+pub returns : goal.returns
+returns c = search (rules, number_yes, run_done, c.in_ok-end.was)
 
-pub returns-else-end-gt0 : goal.returns-else-end-gt0
-returns-else-end-gt0 c = search (rules, quick_zero, run_done)
+pub returns-in_err-end : goal.returns-in_err-end
+returns-in_err-end c = rw c.from_residual.ensures (quick_not _ _ _ _ _)
