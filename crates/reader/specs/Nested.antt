@@ -33,7 +33,7 @@ unfoldable pub has_ending : Settings → BookType → Bool
 has_ending set t = pick (keeps_ends set) (is_delimited t) (both (is_mutable t) (is_structure t))
 
 module _ (s : List ℕ) (set : Settings) where
-  -- its members then stand where it ran short: "Refusals keep the position reached." (`Past` comes up only where ends are kept, and there all is heard.)
+  -- its members then stand where it ran short: "Refusals keep the position reached." (`Bad` comes up only where ends are kept, and there all is heard.)
   unfoldable pub unheard : Contents → Contents
   unheard (Err (unread.Short x)) = undelimited s x.at
   unheard (Err unread.Bad) = Err unread.Bad
