@@ -1,7 +1,7 @@
 -- Laws of the UTF-8 check: a row of the table, byte by byte; the loop's turn and end; the highest byte. Assumes nothing.
 use Prim.Native.Nat.{ℕ, suc, ◌+◌, ◌-◌, ◌<◌, ◌≤◌}
 use mathlib.Core.Path.{◌≡◌, refl, sym, ◌∙◌}
-use mathlib.Core.Bool.{Bool, true, false}
+use mathlib.Core.Bool.{Bool, true, false, ◌&&◌}
 use mathlib.Core.List.{List, [], ◌∷◌, ◌++◌, append-nil}
 use native.Mathlib.Omega.{arith}
 use native.Mathlib.Numerals.{add-one}
@@ -9,7 +9,7 @@ use lib.ListN.{length, get_or, take, drop, drop_of_length-le, length-drop, lengt
 use lib.Seq.{drop-cons, drop-drop, drop-append_seam, take-length}
 use borrow.Author.Tests.{ltb-true}
 use Rattle.ground.specs.Choice.{pick, both, Range, within}
-use Rattle.ground.proofs.Tests.{both_false, both_second, apart}
+use Rattle.ground.proofs.Tests.{both_false, both_second, and_both, apart}
 use Rattle.text.specs.Unicode.{Follow, nothing, ranges, on_follow, follow, table37, rest_good}
 use Rattle.std.specs.Prelude.{Option, Some, None, map, take_while, ltb}
 use Rattle.std.proofs.lemmas.List.{length-take-le}
@@ -29,6 +29,30 @@ too_few [] xs h = absurd (omega arith)
 too_few (r ∷ rs) [] h = refl
 too_few (r ∷ rs) (x ∷ xs) h = rw (too_few rs xs (omega arith)) (both_false (within r x))
 
+both_true : (p : Bool) → p ≡ both p true
+both_true true = refl
+both_true false = refl
+
+-- what tests of the bytes after a first one, which stands at `at`, tell of its row
+module _ (s : List ℕ) (at : ℕ) where
+  pub last_test : (i : ℕ) (r : Range) (p : Bool) → p ≡ within r (get_or s (at + i) 0) → at + i < length s → p ≡ begins (r ∷ []) (drop (at + i) s)
+  unfolding begins
+  last_test i r p e h = rw (from s (at + i) h, ← e) (both_true p)
+
+  pub next_test : (i : ℕ) (r : Range) (rs : List Range) (p q : Bool) → p ≡ within r (get_or s (at + i) 0) → q ≡ begins rs (drop (at + (i + 1)) s) → at + i < length s
+      → (p && q) ≡ begins (r ∷ rs) (drop (at + i) s)
+  unfolding begins
+  next_test i r rs p q e f h =
+      let k : at + (i + 1) ≡ at + i + 1 = omega arith in
+      rw (from s (at + i) h, ← e, ← k, ← f) (and_both p q)
+
+  pub row_tested : (rs : List Range) (p : Bool) (n : Option ℕ) → at < length s → p ≡ begins rs (drop (at + 1) s) → n ≡ pick p (Some (suc (length rs))) None → Row s at (ranges rs) n
+  unfolding on_row
+  row_tested rs p n h e t = record { begun = h; counted = rw (← e) t }
+
+  pub row_few : (rs : List Range) → at < length s → length s - at < suc (length rs) → Row s at (ranges rs) None
+  row_few rs h k = row_tested rs false None h (sym (too_few rs (drop (at + 1) s) (simp length-drop (omega arith)))) refl
+
 from_column : (cs : List In) (i : ℕ) (d : In) → i < length cs → drop i cs ≡ get_or cs i d ∷ drop (i + 1) cs
 from_column cs i d h = rw (add-one i, drop-cons cs i d h)
 
@@ -42,26 +66,21 @@ held_none s at cs = let e : at + 1 + 0 ≡ at + 1 = omega arith in rw e
 -- a line's columns, one after the other
 module _ (s : List ℕ) (at : ℕ) (cs : List In) (n : ℕ) (long : length cs ≡ n) where
   pub row_short : at < length s → length s - at ≤ n → Row s at (ranges (map range_of cs)) None
-  unfolding on_row
-  row_short h k = record { begun = h; counted = rw (too_few (map range_of cs) (drop (at + 1) s) (simp (length-drop, length-map) (omega (arith, long)))) }
+  row_short h k = row_few s at (map range_of cs) h (simp length-map (omega (arith, long)))
 
   module _ (i : ℕ) (d : In) (held : Held s at cs i) (l : i < n) (k : at + 1 + i < length s) (b : Bool) (is : b ≡ within (range_of (get_or cs i d)) (get_or s (at + 1 + i) 0)) where
     next : both b (begins (map range_of (drop (i + 1) cs)) (drop (at + 1 + (i + 1)) s)) ≡ begins (map range_of cs) (drop (at + 1) s)
-    unfolding begins
-    next =
-        let e : at + 1 + (i + 1) ≡ at + 1 + i + 1 = omega arith in
-        rw (e, is) (rw (from_column cs i d (omega (arith, long)), from s (at + 1 + i) k) at held)
+    next = sym (and_both b _) ∙ next_test s (at + 1) i (range_of (get_or cs i d)) (map range_of (drop (i + 1) cs)) b _ is refl k ∙ (rw (from_column cs i d (omega (arith, long))) at held)
 
     pub held_next : b ≡ true → Held s at cs (i + 1)
     held_next e = rw e at next
 
     pub row_none : b ≡ false → at < length s → Row s at (ranges (map range_of cs)) None
-    unfolding on_row
-    row_none e h = record { begun = h; counted = rw (← (rw e at next)) }
+    row_none e h = row_tested s at (map range_of cs) false None h (rw e at next) refl
 
   pub row_whole : (i : ℕ) → Held s at cs i → n ≤ i → at < length s → Row s at (ranges (map range_of cs)) (Some (n + 1))
-  unfolding on_row begins
-  row_whole i held l h = record { begun = h; counted = rw (← (rw (drop_of_length-le cs {i = i} (rw long l)) at held), length-map, long, add-one) }
+  unfolding begins
+  row_whole i held l h = row_tested s at (map range_of cs) true (Some (n + 1)) h (rw (drop_of_length-le cs {i = i} (rw long l)) at held) (rw (length-map, long, add-one))
 
 pub ruleset row_laws = (held_none, held_next, row_short, row_none, row_whole)
 
@@ -159,6 +178,16 @@ module _ (s : List ℕ) (at i : ℕ) (p : Passed s at i) (block rest : List ℕ)
     beyond = omega (arith, p.beyond);
     inside = let e : length s - i ≡ length block + length rest = rw (← (length-drop i s), is) (length-append block rest) in omega (arith, p.inside);
     same = rw (← block_rest) (past_ascii block rest top f h ∙ (rw is at p.same));
+  }
+
+-- going on by one byte below 80
+module _ (s : List ℕ) (at i : ℕ) (p : Passed s at i) where
+  pub byte_passed : i < length s → get_or s i 0 < 0x80 → Passed s at (i + 1)
+  unfolding rest_good
+  byte_passed l h = record {
+    beyond = omega (arith, p.beyond);
+    inside = omega arith;
+    same = rw (← p.same, from s i l, ← first_line (get_or s i 0) h);
   }
 
 -- bytes that each are a line of the table by themselves
