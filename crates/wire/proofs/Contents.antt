@@ -1,21 +1,31 @@
 -- Laws of the DHEADER, and of contents with or without one. Assumes nothing.
 use Rattle.std.specs.Prelude.{Err, Ok}
 use Rattle.wire.specs.declared.cursor.Unread.TheVariants as unread
-use Rattle.std.proofs.Common.{arith, take_all, ◌≡◌, ℕ, ◌+◌, ◌^◌, ◌<◌, ◌≤◌, Bool, true, false, List, length, sym, refl, ap, ◌∙◌, le-ltb}
+use Rattle.std.proofs.Common.{arith, take_all, ◌≡◌, ℕ, ◌+◌, ◌^◌, ◌<◌, ◌≤◌, Bool, true, false, List, length, sym, refl, ap, ◌∙◌, le-ltb, lt-ltb}
 use Rattle.wire.specs.Place.{cursor_at, alignment_of, padding_of}
 use Rattle.wire.specs.Number.{number_at, after_number}
 use Rattle.wire.specs.Code.Reads.{ReadIs}
 use Rattle.wire.specs.Ends.{keeps_ends, cut_at}
-use Rattle.wire.specs.Dheader.{up_to, dheader_at, after_contents}
+use Rattle.wire.specs.Dheader.{up_to, dheader_at, delimited_by, contents_at, after_contents}
 use Rattle.wire.specs.declared.settings.Settings.{Settings}
+use Rattle.wire.specs.declared.settings.Version.TheVariants.{Xcdr1}
 use Rattle.wire.specs.declared.cursor.Cursor.{Cursor}
 use Rattle.wire.specs.declared.cursor.Shortage.{Shortage}
 use Rattle.wire.specs.Number.{Number}
 use Rattle.wire.specs.Dheader.{Contents}
 use Rattle.wire.proofs.Numbers.{read_inv, read_there}
 
--- an end that is not past the data's
+-- an end that is past the data's, or not
 module _ (s : List ℕ) (set : Settings) (c : Cursor) (end : ℕ) where
+  module _ (k : Bool) (keeps : k ≡ keeps_ends set) (h : length s < end) where
+    pub up_to_past : k ≡ true → Err unread.Bad ≡ up_to s set c end
+    unfolding up_to
+    up_to_past e = rw (sym keeps ∙ e, lt-ltb (length s) end h)
+
+    pub up_to_let : k ≡ false → Ok (c, end) ≡ up_to s set c end
+    unfolding up_to
+    up_to_let e = rw (sym keeps ∙ e)
+
   pub up_to_there : end ≤ length s → Ok (c, end) ≡ up_to s set c end
   unfolding up_to
   up_to_there h = go (keeps_ends set) refl
@@ -51,6 +61,16 @@ module _ (s : List ℕ) (set : Settings) (c : Cursor) (r : Number) (is : ReadIs 
   -- what is summed: a position inside the data, and a u32
   pub dheader_parts : (n : ℕ) (d : Cursor) → r ≡ Ok (n, d) → (d.pos ≤ length s) × (n < 256 ^ 4)
   dheader_parts n d e = ((read_inv s set c 4 n d (sym is.is ∙ e)).inside, (rw e at is.small))
+
+-- contents in XCDR1, which has no DHEADER, whatever the flag
+module _ (s : List ℕ) (set : Settings) (f : Bool) (c : Cursor) where
+  pub contents_first : set.version ≡ Xcdr1 → Ok (c, length s) ≡ contents_at s set f c
+  unfolding contents_at delimited_by
+  contents_first v = go f refl
+    where
+      go : (x : Bool) → f ≡ x → Ok (c, length s) ≡ contents_at s set f c
+      go true e = rw (e, v)
+      go false e = rw e
 
 -- what follows, by what they came to
 module _ {A : Type 0} (else : Shortage → A) (past : A) (next : Cursor → ℕ → A) {g : Contents} where
