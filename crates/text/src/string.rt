@@ -31,6 +31,7 @@ fn bytes_here(s: &[u8], at: Cursor, n: usize) -> Result<(usize, usize, Cursor), 
 }
 
 // Serialization rule 3: STRING8.
+#[tactic(auto, using(crate::proofs::Strings::string_short, crate::proofs::Strings::string_got))]
 pub fn string_type(r: Reader, at: Cursor) -> Result<(usize, usize, Cursor), Unread>
     ensures { result ≡ string_type r.entry.bytes.now r.entry.set at }
 {
