@@ -16,7 +16,7 @@ use Rattle.book.specs.declared.member.Run.{Run}
 use Rattle.book.specs.declared.member.Head.{Head}
 use Rattle.std.specs.Prelude.{map}
 use Rattle.book.specs.Types.{Member, byte, pair, quad, labels_of, member_of, past_member, members_of, type_of, type_count, no_type, type_no, optional}
-use Rattle.book.specs.Places.{from, is_there, HeadOf, member_at, type_at, onward, Skipped, member_places, places_left, listed, earlier, Started, types_by, PlaceOf}
+use Rattle.book.specs.Places.{from, is_there, HeadOf, member_at, type_at, onward, Skipped, member_places, places_left, listed, later, earlier, Started, After, types_by, PlaceOf}
 
 -- the bytes left at p
 module _ (b : List ℕ) (p : ℕ) where
@@ -203,6 +203,11 @@ module _ (b : List ℕ) (r : Run) (own : r.book.now ≡ b) where
     unfolding type_of
     run_start f h = record { book = own; place = s.place; left = f; small = h; bytes = s.is; is = rw (listed_is, s.is, f) }
 
+  -- those after the next
+  pub run_after : (ms : Run) → Skipped b ms.at (9 + 4 * byte (from b ms.at) 8) r.at → r.left ≡ ms.left - 1 → After b ms r
+  unfolding later past_member
+  run_after ms s f = record { book = own; place = s.place; left = f; bytes = s.is; is = rw (listed_is, s.is, f) }
+
 module _ (b : List ℕ) (at : ℕ) (r : Bool) (e : r ≡ is_there b at 13) where
   pub start_there : r ≡ true → Skipped b at 14 (at + 14)
   start_there y = skip_to b at 14 (omega (arith, is_inside b at 13 r e y))
@@ -225,12 +230,11 @@ module _ (r : Run) where
   unfolding places_left member_places
   places_none h = rw h
 
-  pub places_some : (t : Run) → 0 < r.left → t.book ≡ r.book → Skipped r.book.now r.at (9 + 4 * byte (from r.book.now r.at) 8) t.at → t.left ≡ r.left - 1
-      → places_left r ≡ r.at ∷ places_left t
+  pub places_some : (t : Run) → 0 < r.left → After r.book.now r t → places_left r ≡ r.at ∷ places_left t
   unfolding places_left member_places
-  places_some t h e s f =
+  places_some t h s =
       let j : r.left ≡ suc (r.left - 1) = omega arith in
-      rw (e, s.place, f) (ap (λ (l : ℕ). member_places r.book.now r.at l) j)
+      rw (s.book, s.place, s.left) (ap (λ (l : ℕ). member_places r.book.now r.at l) j)
 
 -- and the members there
 module _ (b : List ℕ) (r : Run) where

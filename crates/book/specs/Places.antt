@@ -1,6 +1,6 @@
 -- Where the code stands in a book's bytes, and what stands there.
-use Rattle.std.specs.Prelude.{ℕ, zero, suc, ◌+◌, ◌*◌, ◌<◌, ◌≤◌, min, ◌≡◌, Bool, List, [], ◌∷◌, ◌++◌, ltb, length, get_or, drop, map}
-use Rattle.book.specs.Types.{Member, BookType, byte, pair, quad, member_of, members_of, type_of, type_count, type_no, optional}
+use Rattle.std.specs.Prelude.{ℕ, zero, suc, ◌+◌, ◌-◌, ◌*◌, ◌<◌, ◌≤◌, min, ◌≡◌, Bool, List, [], ◌∷◌, ◌++◌, ltb, length, get_or, drop, map}
+use Rattle.book.specs.Types.{Member, BookType, byte, pair, quad, member_of, past_member, members_of, type_of, type_count, type_no, optional}
 use Rattle.book.specs.declared.member.Run.{Run}
 use Rattle.book.specs.declared.member.Head.{Head}
 use Rattle.book.specs.declared.index.Types.{Types}
@@ -53,6 +53,10 @@ places_left ms = member_places ms.book.now ms.at ms.left
 unfoldable pub listed : List ℕ → Run → List Member
 listed b ms = map (member_at b) (places_left ms)
 
+-- those after the next
+unfoldable pub later : List ℕ → Run → List Member
+later b ms = members_of (ms.left - 1) (past_member (from b ms.at))
+
 -- the first n members of the type at `at`
 unfoldable pub earlier : List ℕ → ℕ → ℕ → List Member
 earlier b at n = members_of n (drop 14 (from b at))
@@ -70,6 +74,14 @@ pub record Started (b : List ℕ) (at : ℕ) (r : Run) : Type 0 where
   pub small : r.left < 65536
   pub bytes : from b r.at ≡ drop 14 (from b at)
   pub is : listed b r ≡ (type_at b at).members
+
+-- r is the run ms without its next member
+pub record After (b : List ℕ) (ms r : Run) : Type 0 where
+  pub book : r.book.now ≡ b
+  pub place : r.at ≡ onward b ms.at (9 + 4 * byte (from b ms.at) 8)
+  pub left : r.left ≡ ms.left - 1
+  pub bytes : from b r.at ≡ past_member (from b ms.at)
+  pub is : listed b r ≡ later b ms
 
 -- the places of n types, the first at p
 unfoldable pub places_from : List ℕ → ℕ → ℕ → List ℕ

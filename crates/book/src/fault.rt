@@ -1,6 +1,6 @@
 // What is wrong with a book: a record and a reason, in order 2's words.
 ghost use Rattle.std.specs.Prelude.{◌≡◌};
-ghost use Rattle.book.specs.Fault.{reason_number};
+ghost use Rattle.book.specs.Fault.{reason_number, is_right, fault_number};
 
 // "head, record length, code out of range, type link, bound, member list, union's first member"
 #[derive(Clone, Copy, PartialEq, Eq)]
@@ -47,5 +47,25 @@ impl Fault {
         ensures { result ≡ reason_number self.reason }
     {
         self.reason.number()
+    }
+}
+
+// Whether nothing is wrong, by what is told of a book.
+pub fn is_right(told: Result<(), Fault>) -> bool
+    ensures { result ≡ is_right told }
+{
+    match told {
+        Ok(()) => true,
+        Err(_) => false,
+    }
+}
+
+// The reason's number; 0 where nothing is wrong.
+pub fn number_of(told: Result<(), Fault>) -> u8
+    ensures { result ≡ fault_number told }
+{
+    match told {
+        Ok(()) => 0,
+        Err(found) => found.number(),
     }
 }

@@ -9,7 +9,7 @@ ghost use Rattle.book.specs.Rules.{flags_ok, construct_ok, label_count_ok, recor
 ghost use Rattle.book.specs.Fault.{broken, unless, own_fault, member_fault, members_fault, record_fault, records_fault, fault_of};
 
 use crate::bytes::{byte_at, byte_there, left_at, pair_at, pair_there, quad_at, quad_there, skip};
-use crate::fault::{Fault, HEAD, Reason};
+use crate::fault::{Fault, HEAD, Reason, is_right};
 use crate::index::{Types, index};
 use crate::member::Run;
 use crate::types::{ANNOTATION, ARRAY, BITMASK, ENUM, SEQUENCE, STRUCTURE, UNION};
@@ -372,5 +372,5 @@ pub fn fault(b: &[u8]) -> Result<(), Fault>
 pub fn judge(b: &[u8]) -> bool
     ensures { result ≡ book_ok b.now }
 {
-    fault(b).is_ok()
+    is_right(fault(b))
 }

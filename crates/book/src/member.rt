@@ -1,7 +1,7 @@
 // The members of a type: a run of them, and the fields of the one at a place.
 ghost use Rattle.std.specs.Prelude.{◌≡◌, ◌+◌, ◌*◌, ◌<◌, length, get_or, pos};
 ghost use Rattle.book.specs.Types.{byte, optional, default};
-ghost use Rattle.book.specs.Places.{from, member_at, type_at, HeadOf, Skipped, Started, places_left};
+ghost use Rattle.book.specs.Places.{from, member_at, type_at, HeadOf, Skipped, Started, After, places_left};
 
 use crate::bytes::{byte_at, byte_there, is_there, pair_at, pair_there, quad_at, quad_there};
 
@@ -30,8 +30,7 @@ impl Iterator for Run<'_> {
             return None;
         }
         let p = self.at;
-        self.at = past(self.book, p);
-        self.left -= 1;
+        *self = after(self.book, *self);
         Some(p)
     }
 }
@@ -73,6 +72,27 @@ fn past(b: &[u8], p: usize) -> usize
         }
     }
     end
+}
+
+// Those after the next.
+pub fn after<'a>(b: &'a [u8], ms: Run<'_>) -> Run<'a>
+    ensures { After b.now ms.entry result }
+{
+    let p = ms.at;
+    let left = ms.left;
+    let q = past(b, p);
+    if left == 0 {
+        return Run {
+            book: b,
+            at: q,
+            left: 0,
+        };
+    }
+    Run {
+        book: b,
+        at: q,
+        left: left - 1,
+    }
 }
 
 // What is asked of every member that is read in turn.

@@ -1,8 +1,8 @@
 -- `book::judge::judge`: nothing is wrong with a book exactly where it is right.
 use mathlib.Core.Path.{ap, ◌∙◌}
 use Rattle.book.specs.Fault.{is_right}
-use Rattle.book.proofs.Faults.{right_is, book_right}
+use Rattle.book.proofs.Faults.{book_right}
 use Rattle.book.proofs.judge.judge.Goals as goal
 
 pub returns : goal.returns
-returns c = c.is_ok.ensures.value ∙ right_is _ ∙ ap is_right c.fault.ensures ∙ book_right _
+returns c = c.is_right.ensures ∙ ap is_right c.fault.ensures ∙ book_right _
