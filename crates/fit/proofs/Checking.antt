@@ -10,27 +10,26 @@ use Rattle.ground.specs.Choice.{pick}
 use Rattle.book.specs.Types.{BookType, type_count, types_of}
 use Rattle.book.specs.Places.{types_by, index_count, indexed}
 use Rattle.book.specs.Rules.{head_ok, book_ok}
-use Rattle.book.specs.declared.fault.Fault.{Fault}
-use Rattle.std.specs.Prelude.{Ok, Err}
-use Rattle.book.specs.Fault.{Verdict, reason_number, fault_number, fault_of}
+use Rattle.book.specs.Fault.{Verdict, is_right, fault_number, fault_of}
 use Rattle.book.proofs.Good.{head_good, count_good, index_good}
-use Rattle.book.proofs.Faults.{told_wrong, told_nothing}
+use Rattle.book.proofs.Faults.{book_right}
 use Rattle.fit.specs.Ids.{clauses_for}
 use Rattle.fit.specs.Check.{check_of}
 use Rattle.fit.specs.Code.Check.{fits}
 
 -- "Otherwise 8, 9, then 16.", by what the judge found: of a book that breaks a rule, its number
-module _ (b : List ℕ) (root : ℕ) (onlyXcdr2 : Bool) (told : Verdict) (found : told ≡ fault_of b) where
-  pub check_book : (f : Fault) → told ≡ Err f → (r : ℕ) → r ≡ reason_number f.reason → r ≡ check_of b root onlyXcdr2
-  unfolding check_of fault_number
-  check_book f z r e =
-      let g : fault_of b ≡ Err f = sym found ∙ z in
-      rw (told_wrong b f.at f.reason g, g) e
+module _ (b : List ℕ) (root : ℕ) (onlyXcdr2 : Bool) (told : Verdict) (found : told ≡ fault_of b) (t : Bool) (right : t ≡ is_right told) where
+  judged : book_ok b ≡ t
+  judged = sym (book_right b) ∙ (rw (← found, ← right))
+
+  pub check_book : t ≡ false → (r : ℕ) → r ≡ fault_number told → r ≡ check_of b root onlyXcdr2
+  unfolding check_of
+  check_book z r e = rw (judged, z, ← found) e
 
   -- a book of which nothing is told has 64 types at most
-  module _ (v : Unit {0}) (z : told ≡ Ok v) (n : ℕ) (counted : n ≡ type_count b) where
+  module _ (z : t ≡ true) (n : ℕ) (counted : n ≡ type_count b) where
     good : book_ok b ≡ true
-    good = told_nothing b (sym found ∙ z)
+    good = judged ∙ z
 
     pub judge_few : n ≤ 64
     judge_few = omega (arith, (count_good b good).1)

@@ -13,6 +13,7 @@ pub mod clauses;
 pub mod ids;
 
 use book::asked::kind_at;
+use book::fault::{is_right, number_of};
 use book::index::Types;
 use book::judge::judge_into;
 use book::member::{members, type_index};
@@ -111,8 +112,9 @@ pub fn check(book: &[u8], root: usize, only_xcdr2: bool) -> u8
     ensures { result ≡ check_of book.now root only_xcdr2 }
 {
     let mut places = [0u32; TYPES];
-    if let Err(found) = judge_into(book, &mut places) {
-        return found.number();
+    let found = judge_into(book, &mut places);
+    if !is_right(found) {
+        return number_of(found);
     }
     let n = type_count(book);
     if n <= root {

@@ -3,14 +3,15 @@ use Rattle.fit.proofs.Checking.{judge_few, check_book, check_root, check_fit, ch
 use borrow.Author.Rules.{rules}
 use Rattle.fit.proofs.check.Goals as goal
 
-pub returns-in-Err : goal.returns-in-Err
-returns-in-Err c = check_book _ _ _ _ c.judge_into.ensures.0 _ c.in-Err.is _ c.number.ensures
+pub returns-then-not-is_right : goal.returns-then-not-is_right
+returns-then-not-is_right c = search (rules, check_book)
 
 pub slice_bounds-types-end : goal.slice_bounds-types-end
-slice_bounds-types-end c = search (rules, judge_few _ c.args.root c.args.only_xcdr2 _ c.judge_into.ensures.0 _ c.in_default.is _ c.type_count-n.ensures.0)
+slice_bounds-types-end c =
+    search (rules, judge_few _ c.args.root c.args.only_xcdr2 _ c.judge_into-found.ensures.0 _ c.is_right.ensures c.if-not-is_right.false _ c.type_count-n.ensures.0)
 
 pub returns-then-n-root : goal.returns-then-n-root
-returns-then-n-root c = search (rules, check_root, c.in_default.is)
+returns-then-n-root c = search (rules, check_root)
 
 pub returns-then-fits_by : goal.returns-then-fits_by
 returns-then-fits_by c = search (rules, check_fit)
