@@ -8,6 +8,7 @@ use native.Mathlib.Nat.{sub-zero}
 use native.Mathlib.Omega.{arith}
 use lib.ListN.{length, replicate}
 use Rattle.wire.specs.declared.cursor.Cursor.{Cursor}
+use Rattle.wire.specs.declared.cursor.Told.{Told}
 use Rattle.wire.specs.declared.cursor.Shortage.{Shortage}
 use Rattle.wire.specs.declared.settings.Settings.{Settings}
 use Rattle.book.specs.Types.{BookType}
@@ -22,7 +23,7 @@ use Rattle.table.proofs.Filling.{filled_fits}
 use Rattle.table.proofs.Outcomes.{was_read, was_short, was_refused}
 use Rattle.reader.specs.Nested.{reading}
 use Rattle.sinotayam.specs.declared.answer.Status.{Status}
-use Rattle.sinotayam.specs.declared.answer.Status.TheVariants.{Read}
+use Rattle.sinotayam.specs.declared.answer.Status.TheVariants.{Read, NotEnoughData}
 use Rattle.sinotayam.specs.declared.answer.Answer.{Answer}
 use Rattle.sinotayam.specs.Answer.{code_of, Result, refused_by, short_by, result_of, Settled}
 
@@ -47,6 +48,10 @@ settled_long w t u e d = record { number = d.number; count = d.count; told = d.t
 pub settled_cleared : (t v : List ℕ) (n : Status) → v ≡ cleared_from (width * 0) t → Settled (refused_by n) t v (record { status = n; rows = 0; told = nothing_told })
 unfolding words
 settled_cleared t v n f = record { number = refl; count = refl; told = refl; table = f }
+
+-- with what is told of it, a refusal is short
+pub settled_telling : (t v : List ℕ) (a : Answer) (told : Told) → Settled (refused_by NotEnoughData) t v a → Settled (short_by told) t v (record { status = a.status; rows = a.rows; told = told })
+settled_telling t v a told d = record { number = d.number; count = d.count; told = refl; table = d.table }
 
 -- over rows that are a variable: `rw` cannot rewrite m inside `(was_read h q).new`, which is made from m
 settled_rows : (o : Outcome) (t u v : List ℕ) (e : Cursor) (m : ℕ) (rs : List Row) → o ≡ read e rs → m ≡ 0 + length rs → Filled t u 0 rs → v ≡ cleared_from (width * m) u → Settled (result_of o) t v (record { status = Read; rows = m; told = nothing_told })
