@@ -25,7 +25,7 @@ use Rattle.sinotayam.specs.declared.answer.Status.TheVariants.{Read, NotPrepared
 use Rattle.sinotayam.specs.declared.answer.Answer.{Answer}
 use Rattle.sinotayam.specs.Answer.{code_of, Result, refused_by, Settled}
 use Rattle.sinotayam.specs.Entry.{refused_if, by_fault, with_book}
-use Rattle.sinotayam.specs.Prepared.{HeldIn, has_places, prepare_of, prepared_from, places_in, with_index}
+use Rattle.sinotayam.specs.Prepared.{HeldIn, has_places, prepare_of, prepared_from, own_from, places_in, with_index}
 use Rattle.sinotayam.proofs.Settling.{settled_same}
 
 -- PREPARING
@@ -56,13 +56,32 @@ module _ (b lent : List ℕ) (is : fault_of b ≡ Ok tt) (n : ℕ) (g : n ≡ ty
   index_good ys k =
       rw (kept, lt-ltb (type_count b) (length lent) (omega (arith, g, h))) (after_count b lent n ys g (count_good b kept).1 h k)
 
--- the same of 65 words, as the judge leaves them
-pub own_index : (b own ys : List ℕ) (n : ℕ) → fault_of b ≡ Ok tt → length own ≡ 65 → n ≡ type_count b → ys ≡ pick (head_ok b) (indexed b (take 64 (drop 1 own))) (take 64 (drop 1 own)) → set (put_mid 1 64 own ys) 0 n ≡ prepared_from b own
-own_index b own ys n is l g k =
-    let e : book_ok b ≡ true = told_nothing b is in
-    let m : length own - 1 ≡ 64 = omega (arith, l) in
-    let w : ys ≡ indexed b (take (length own - 1) (drop 1 own)) = rw (m) (rw (head_good b e) at k) in
-    rw (m) at (index_good b own is n g (omega (arith, l, g, (count_good b e).1)) ys w)
+-- a reading's own words, of which the judge was lent all but the first: that one, and what the judge leaves
+own_words : (b own ys : List ℕ) (m : ℕ) → 1 ≤ length own → m ≡ length own - 1 → ys ≡ pick (head_ok b) (indexed b (take m (drop 1 own))) (take m (drop 1 own)) → put_mid 1 m own ys ≡ get_or own 0 0 ∷ pick (head_ok b) (indexed b (drop 1 own)) (drop 1 own)
+own_words b [] ys m long l k = absurd (omega arith)
+own_words b (x ∷ xs) ys m long l k =
+    let e : m ≡ length xs = omega arith in
+    let w : ys ≡ pick (head_ok b) (indexed b xs) xs = rw (e, take-length xs) at k in
+    rw (e, drop_of_length-le xs (le_refl (length xs)), append-nil, w)
+
+-- the same of 65 words or more, and with the count in the first where the book is right
+module _ (b own ys : List ℕ) (m : ℕ) (long : 65 ≤ length own) (l : m ≡ length own - 1) (k : ys ≡ pick (head_ok b) (indexed b (take m (drop 1 own))) (take m (drop 1 own))) where
+  pub own_index : (n : ℕ) → fault_of b ≡ Ok tt → n ≡ type_count b → set (put_mid 1 m own ys) 0 n ≡ prepared_from b own
+  own_index n is g =
+      let e : book_ok b ≡ true = told_nothing b is in
+      let w : ys ≡ indexed b (take (length own - 1) (drop 1 own)) = rw (← l) (rw (head_good b e) at k) in
+      rw l (index_good b own is n g (omega (arith, long, g, (count_good b e).1)) ys w)
+
+  words : put_mid 1 m own ys ≡ get_or own 0 0 ∷ pick (head_ok b) (indexed b (drop 1 own)) (drop 1 own)
+  words = own_words b own ys m (omega (arith, long)) l k
+
+  pub own_right : (n : ℕ) → fault_of b ≡ Ok tt → n ≡ type_count b → set (put_mid 1 m own ys) 0 n ≡ own_from b own
+  unfolding own_from
+  own_right n is g = rw (words, told_nothing b is, g)
+
+  pub own_broken : (x : Fault) → fault_of b ≡ Err x → put_mid 1 m own ys ≡ own_from b own
+  unfolding own_from
+  own_broken x is = rw (words, not_right b x is)
 
 -- READING WITH AN INDEX
 take_taken : (k : ℕ) (l : List ℕ) → take (length (take k l)) l ≡ take k l
@@ -120,8 +139,8 @@ module _ (b : List ℕ) (f : Verdict) (found : f ≡ fault_of b) (next : List Bo
   unfolding with_book by_fault
   read_bad x v w r is d = settled_same (rw (← found, is)) d
 
-  -- with an index of the call's own, of 65 words
-  pub read_own : (own index : List ℕ) (v w : List ℕ) (r : Answer) → f ≡ Ok tt → length own ≡ 65 → index ≡ prepared_from b own → Settled (with_index b index next) v w r → Settled (with_book b next) v w r
+  -- with an index of the call's own, of 65 words or more
+  pub read_own : (own index : List ℕ) (v w : List ℕ) (r : Answer) → f ≡ Ok tt → 65 ≤ length own → index ≡ prepared_from b own → Settled (with_index b index next) v w r → Settled (with_book b next) v w r
   unfolding has_places
   read_own own index v w r is l k d =
       let e : book_ok b ≡ true = told_nothing b (sym found ∙ is) in

@@ -4,9 +4,9 @@ use Rattle.std.specs.Prelude.{ℕ, suc, ◌≡◌, Bool, List, ◌∷◌, ◌++�
 use Rattle.ground.specs.Choice.{pick, both}
 use Rattle.wire.specs.declared.settings.Mode.{Mode}
 use Rattle.book.specs.Types.{BookType, type_count}
-use Rattle.book.specs.Places.{places_from, types_by}
+use Rattle.book.specs.Places.{places_from, indexed, types_by}
 use Rattle.book.specs.declared.index.Types.{Types}
-use Rattle.book.specs.Rules.{book_ok}
+use Rattle.book.specs.Rules.{head_ok, book_ok}
 use Rattle.book.specs.Fault.{fault_number, fault_of}
 use Rattle.sinotayam.specs.declared.answer.Status.TheVariants.{NotPrepared}
 use Rattle.sinotayam.specs.Answer.{Result}
@@ -25,6 +25,11 @@ unfoldable pub prepared_from : List ℕ → List ℕ → List ℕ
 prepared_from book lent =
     pick (both (book_ok book) (has_places book lent))
     (type_count book ∷ places_from book 7 (type_count book) ++ drop (suc (type_count book)) lent) (set lent 0 0)
+
+-- what a reading leaves in an index of its own: from the second word on the places, written where the head is right, whatever else is wrong; before them
+-- the count of a right book, and else what was there
+unfoldable pub own_from : List ℕ → List ℕ → List ℕ
+own_from book own = pick (book_ok book) (type_count book) (get_or own 0 0) ∷ pick (head_ok book) (indexed book (drop 1 own)) (drop 1 own)
 
 -- the places that an index holds: as many as it says, and no more than it has
 unfoldable pub places_in : List ℕ → List ℕ

@@ -2,7 +2,7 @@
 ghost use Rattle.std.specs.Prelude.{◌≡◌, ◌-◌, ◌≤◌, length, set, Ok};
 ghost use Rattle.book.specs.Fault.{fault_of};
 ghost use Rattle.sinotayam.specs.Answer.{code_of};
-ghost use Rattle.sinotayam.specs.Prepared.{prepare_of, prepared_from, places_in, HeldIn};
+ghost use Rattle.sinotayam.specs.Prepared.{prepare_of, prepared_from, own_from, places_in, HeldIn};
 
 use crate::answer::Status;
 use book::fault::Fault;
@@ -52,7 +52,7 @@ pub fn prepare(book: &[u8], lent: &mut [u32]) -> Status
 
 // Judges a book for one reading alone. The index is the call's own, so the judge's places go into it before the verdict.
 pub fn prepare_own(book: &[u8], own: &mut [u32; WORDS]) -> Result<(), Fault>
-    ensures { (result ≡ fault_of book.now) × (result ≡ Ok tt → own.new ≡ prepared_from book.now own.old) }
+    ensures { (result ≡ fault_of book.now) × (own.new ≡ own_from book.now own.old) × (result ≡ Ok tt → own.new ≡ prepared_from book.now own.old) }
 {
     judge_into(book, &mut own[1..])?;
     own[0] = type_count(book) as u32;
