@@ -88,7 +88,9 @@ impl<'a> Deserializer<'a> {
             };
             put_row(t, m, row);
             let (next, k) = self.body(t, at, kind, place, m + 1, depth - 1)?;
-            put_beneath(t, m, (k - m - 1) as u64);
+            let rows = k - m;
+            let beneath = rows - 1;
+            put_beneath(t, m, beneath as u64);
             place = next;
             m = k;
             number = i + 1;

@@ -41,11 +41,11 @@ as_nested-overflow_add-m t c = row_next _ _ _ c.is_full.ensures c.if-is_full.fal
 pub as_nested-returns-in_err-next : goal.as_nested-returns-in_err-next
 as_nested-returns-in_err-next t c = rw (exits c.from_residual.ensures.1) (run_failed c.loop-i.invariant c.loop-i-test.true (nested_failed c.place-at.ensures c.kind_at-kind.ensures c.opens.ensures _ _ _ _ _ _ _ c.if-not-opens.false-raw c.if-depth-eq0.false _ c.is_full.ensures c.if-is_full.false (c.from.ensures ∙ c.stored_of.ensures) c.put_row.ensures c.body.ensures _ c.in_err-next.was) refl)
 
-pub as_nested-overflow_sub-k : goal.as_nested-overflow_sub-k
-as_nested-overflow_sub-k t c = count_from c.body.ensures c.in_ok-next.was
+pub as_nested-overflow_sub-rows : goal.as_nested-overflow_sub-rows
+as_nested-overflow_sub-rows t c = count_from c.body.ensures c.in_ok-next.was
 
-pub as_nested-overflow_sub-k-in-loop-i : goal.as_nested-overflow_sub-k-in-loop-i
-as_nested-overflow_sub-k-in-loop-i t c = count_past _ c.body.ensures c.in_ok-next.was
+pub as_nested-overflow_sub-beneath : goal.as_nested-overflow_sub-beneath
+as_nested-overflow_sub-beneath t c = count_past _ c.body.ensures c.in_ok-next.was
 
 pub as_nested-put_beneath-requires : goal.as_nested-put_beneath-requires
 as_nested-put_beneath-requires t c = place_kept _ _ _ _ _ _ _ _ c.is_full.ensures c.if-is_full.false c.put_row.ensures c.body.ensures
