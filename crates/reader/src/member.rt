@@ -23,8 +23,8 @@ use wire::settings::Version;
 impl<'a> Deserializer<'a> {
     // Serialization rules 19 and 20: an optional member of a Final or Appendable type. XCDR1 looks it up, XCDR2 asks a boolean.
     #[cycle(reading)]
-    pub fn option(self, t: &mut [u64], p: usize, c: Cursor, n: usize, depth: usize) -> Out
-        ensures { Done (optional_in self.entry depth (member_at self.entry.types.book.now p) c (room t.old n)) n t.old t.new result }
+    pub fn option(&self, t: &mut [u64], p: usize, c: Cursor, n: usize, depth: usize) -> Out
+        ensures { Done (optional_in self.now depth (member_at self.now.types.book.now p) c (room t.old n)) n t.old t.new result }
     {
         let book = self.types.book;
         match self.reader.set.version {
@@ -48,17 +48,18 @@ impl<'a> Deserializer<'a> {
         match look_up(self.reader, wanted, c) {
             Sought::Found(v, length) => {
                 let d = value_at(self.reader.set.version, v, c.origin);
-                let own = Deserializer {
-                    types: self.types,
-                    reader: Reader {
-                        bytes: self.reader.cut(v, length),
-                        set: self.reader.set,
-                    },
+                let reader = Reader {
+                    bytes: self.reader.cut(v, length),
+                    set: self.reader.set,
                 };
                 let kind = kind_found(&self.types, p);
-                if let Some(_) = any_at(own.reader, t, kind, u64::from(wanted), d, n) {
+                if let Some(_) = any_at(reader, t, kind, u64::from(wanted), d, n) {
                     return Ok((c, n + 1));
                 }
+                let own = Deserializer {
+                    types: self.types,
+                    reader,
+                };
                 came_back(c, own.found(t, p, length, d, n, depth))
             }
             Sought::Absent => Ok((c, n)),
@@ -97,7 +98,7 @@ impl<'a> Deserializer<'a> {
     // The value of a member that was found, from its own data. The crate's XCDR2 takes a sequence of primitives by the length that was found.
     #[cycle(reading)]
     pub fn found(
-        self,
+        &self,
         t: &mut [u64],
         p: usize,
         length: u64,
@@ -105,7 +106,7 @@ impl<'a> Deserializer<'a> {
         n: usize,
         depth: usize,
     ) -> Out
-        ensures { Done (found_in self.entry depth (member_at self.entry.types.book.now p) length c (room t.old n)) n t.old t.new result }
+        ensures { Done (found_in self.now depth (member_at self.now.types.book.now p) length c (room t.old n)) n t.old t.new result }
     {
         let book = self.types.book;
         let ty = type_index(book, p);

@@ -64,19 +64,20 @@ impl<'a> Deserializer<'a> {
             let wanted = id(book, p);
             h = hint_after(ahead, wanted);
             let c = value_at(self.reader.set.version, ahead.value, back.origin);
-            let own = Deserializer {
-                types: self.types,
-                reader: Reader {
-                    bytes: self.reader.cut(ahead.value, ahead.length),
-                    set: self.reader.set,
-                },
+            let reader = Reader {
+                bytes: self.reader.cut(ahead.value, ahead.length),
+                set: self.reader.set,
             };
             let number = u64::from(wanted);
             let kind = kind_found(&self.types, p);
-            if let Some(_) = quick::value_at(own.reader, t, kind, number, c, m) {
+            if let Some(_) = quick::value_at(reader, t, kind, number, c, m) {
                 m += 1;
                 continue;
             }
+            let own = Deserializer {
+                types: self.types,
+                reader,
+            };
             if kinds::opens(kind) {
                 let ty = type_index(book, p);
                 let read = own.as_nested(t, ty, number, 1, c, m, depth);

@@ -22,8 +22,8 @@ use wire::reader::Reader;
 impl<'a> Deserializer<'a> {
     // A value, by its type's kind.
     #[cycle(reading)]
-    pub fn value(self, t: &mut [u64], ty: usize, id: u64, c: Cursor, n: usize, depth: usize) -> Out
-        ensures { Done (value_in self.entry depth ty id c (room t.old n)) n t.old t.new result }
+    pub fn value(&self, t: &mut [u64], ty: usize, id: u64, c: Cursor, n: usize, depth: usize) -> Out
+        ensures { Done (value_in self.now depth ty id c (room t.old n)) n t.old t.new result }
     {
         let p = self.types.place(ty);
         let kind = kind_at(self.types.book, p);
@@ -77,7 +77,7 @@ impl<'a> Deserializer<'a> {
     // The elements of a list, by their type.
     #[cycle(reading)]
     pub fn elements(
-        self,
+        &self,
         t: &mut [u64],
         ty: usize,
         id: u64,
@@ -86,7 +86,7 @@ impl<'a> Deserializer<'a> {
         n: usize,
         depth: usize,
     ) -> Out
-        ensures { Done (elements_in self.entry depth ty id count c (room t.old n)) n t.old t.new result }
+        ensures { Done (elements_in self.now depth ty id count c (room t.old n)) n t.old t.new result }
     {
         let p = self.types.place(ty);
         let kind = kind_at(self.types.book, p);
