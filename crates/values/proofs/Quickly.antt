@@ -1,7 +1,7 @@
 -- Laws of the quick way: what it takes is what `scalar_of` says. Assumes nothing.
-use Rattle.std.specs.Prelude.{Option, None, Some, Ok}
-use Prim.Native.Nat.{ℕ, zero, suc, ◌+◌, ◌-◌, ◌*◌, ◌≤◌, ◌<◌, ◌^◌}
-use mathlib.Core.Path.{◌≡◌, refl, sym, ◌∙◌}
+use Rattle.std.specs.Prelude.{Option, None, Some, Ok, Err}
+use Prim.Native.Nat.{ℕ, zero, suc, ◌+◌, ◌-◌, ◌*◌, ◌/◌, ◌%◌, ◌≤◌, ◌<◌, ◌^◌}
+use mathlib.Core.Path.{◌≡◌, refl, sym, ap, ◌∙◌}
 use mathlib.Core.Bool.{Bool, true, false, not, ◌||◌}
 use mathlib.Core.List.{List}
 use native.Mathlib.Omega.{arith}
@@ -16,8 +16,8 @@ use Rattle.ground.proofs.Tests.{both_left, both_right, inside}
 use Rattle.wire.specs.declared.cursor.Cursor.{Cursor}
 use Rattle.wire.specs.declared.settings.Settings.{Settings}
 use Rattle.wire.specs.Place.{cursor_at, alignment_of, padding_of}
-use Rattle.wire.specs.Number.{number_at, read_number, read_boolean, on_byte, boolean_in}
-use Rattle.wire.proofs.Numbers.{read_there}
+use Rattle.wire.specs.Number.{Number, Float128, number_at, read_number, read_float128, halves_of, read_boolean, on_byte, boolean_in}
+use Rattle.wire.proofs.Numbers.{read_there, read_inv}
 use Rattle.text.specs.Unicode.{utf8}
 use Rattle.text.specs.Text.{part, string_type}
 use Rattle.text.proofs.Places.{string_there}
@@ -30,7 +30,7 @@ use Rattle.table.specs.Outcome.{Outcome}
 use Rattle.table.specs.Code.Outcome.{Done}
 use Rattle.table.proofs.Filling.{full_fits, filled_fits}
 use Rattle.table.proofs.Outcomes.{is_same, was_read}
-use Rattle.values.specs.Scalar.{scalar_of, on_number, on_boolean, on_text, bool_word, rowed, place_before, word_of}
+use Rattle.values.specs.Scalar.{scalar_of, on_number, on_boolean, on_float128, on_text, bool_word, rowed, place_before, word_of}
 use Rattle.values.specs.Code.Quick.{is_number, is_taken, Quickly}
 use Rattle.values.proofs.Scalars.{row_given}
 
@@ -167,6 +167,24 @@ module _ (s : List ℕ) (set : Settings) (id : ℕ) (c : Cursor) (t : List ℕ) 
       let b : place_before 4 start ≡ q = rw e (read_begins q 4) in
       quick_row (scalar_of s set 16 id c (room t n)) t n c.origin (start + v) (row 16 id start (v - 1) q) (rw (k, b)) free u put
 
+-- a FLOAT128 was read as one number of 16 bytes, so the origin is kept
+halves_kept : (s : List ℕ) (set : Settings) (c : Cursor) (r : Number) → read_number s set c 16 ≡ r → (low high : ℕ) (d : Cursor) → halves_of r ≡ Ok (low, high, d) → d ≡ cursor_at d.pos c.origin
+unfolding halves_of
+halves_kept s set c (Err x) e low high d h = absurd (cc)
+halves_kept s set c (Ok (v, f)) e low high d h =
+    let g : f ≡ d = ap (λ (x : ℕ × ℕ × Cursor). x.2) (let p : ◌≡◌ {A = ℕ × ℕ × Cursor} (v % 2 ^ 64, v / 2 ^ 64, f) (low, high, d) = cc in p) in
+    let k : d.origin ≡ c.origin = (read_inv s set c 16 v d (rw g at e)).kept in
+    rw (← k)
+
+module _ (s : List ℕ) (set : Settings) (id : ℕ) (c : Cursor) (t : List ℕ) (n : ℕ) where
+  pub quick_float128 : (g : Float128) → g ≡ read_float128 s set c → (low high : ℕ) (d : Cursor) → g ≡ Ok (low, high, d) → (p : ℕ) → p ≡ d.pos - 16 → no_room t n ≡ false
+      → (u : List ℕ) → u ≡ put_row t n (row 11 id low high p) → Quickly (scalar_of s set 11 id c (room t n)) 1 n c.origin t u (Some d.pos)
+  unfolding scalar_of on_float128 read_float128 place_before
+  quick_float128 g is low high d e p at free u put =
+      let k : d ≡ cursor_at d.pos c.origin = halves_kept s set c (read_number s set c 16) refl low high d (sym is ∙ e) in
+      let o : on_float128 id (room t n) (read_float128 s set c) ≡ rowed (room t n) (cursor_at d.pos c.origin) (row 11 id low high p) = rw (← is, e, at, ← k) in
+      quick_row (scalar_of s set 11 id c (room t n)) t n c.origin d.pos (row 11 id low high p) o free u put
+
 -- a number is taken
 pub taken_number : (kind : ℕ) (b : Bool) → b ≡ is_number kind → b ≡ true → is_taken kind ≡ true
 unfolding is_taken
@@ -190,4 +208,4 @@ module _ (kind k : ℕ) (e : kind ≡ k) where
 pub none_taken : (kind p : ℕ) → None ≡ Some p → is_taken kind ≡ true
 none_taken kind p h = absurd (cc)
 
-pub ruleset quick_laws = (is_free, free_fits, wide_some, wide_most, past_fits, number_so, quick_number, quick_boolean, quick_kind, quick_not, none_taken, taken_known, taken_number)
+pub ruleset quick_laws = (is_free, free_fits, wide_some, wide_most, past_fits, number_so, quick_number, quick_boolean, quick_float128, quick_kind, quick_not, none_taken, taken_known, taken_number)

@@ -8,13 +8,13 @@ ghost use Rattle.values.specs.Code.Lists.{block_at, plain_of};
 ghost use Rattle.values.specs.Code.Quick.{Quickly};
 
 use crate::{quick, scalar};
-use kinds::names::{BOOLEAN, SEQUENCE, STRING8};
+use kinds::names::{BOOLEAN, FLOAT128, SEQUENCE, STRING8};
 use table::out::{Out, Refusal, Trouble};
 use table::rows::{Row, is_full, put_row};
 use wire::cursor::{Cursor, Shortage};
 use wire::reader::Reader;
 
-// The quick way for a list's texts and booleans, the most frequent of what is no number.
+// The quick way for a list's texts, booleans and FLOAT128s, which `numbers_at` does not take.
 #[tactic(auto, using(crate::proofs::Quickly::quick_laws))]
 fn element(r: Reader, t: &mut [u64], kind: u8, id: u64, at: Cursor, n: usize) -> Option<usize>
     ensures { Quickly (scalar_of r.entry.bytes.now r.entry.set kind id at (room t.old n)) 1 n at.origin t.old t.new result }
@@ -25,6 +25,7 @@ fn element(r: Reader, t: &mut [u64], kind: u8, id: u64, at: Cursor, n: usize) ->
     match kind {
         STRING8 => quick::text_at(r, t, id, at, n),
         BOOLEAN => quick::boolean_at(r, t, id, at, n),
+        FLOAT128 => quick::float128_at(r, t, id, at, n),
         _ => None,
     }
 }

@@ -102,6 +102,25 @@ pub fn boolean_at(r: Reader, t: &mut [u64], id: u64, at: Cursor, n: usize) -> Op
     Some(q + widths::BOOLEAN)
 }
 
+// A FLOAT128.
+pub fn float128_at(r: Reader, t: &mut [u64], id: u64, at: Cursor, n: usize) -> Option<usize>
+    requires { no_room t.old n ≡ false }
+    ensures { Quickly (scalar_of r.entry.bytes.now r.entry.set 11 id at (room t.old n)) 1 n at.origin t.old t.new result }
+{
+    let Ok((low, high, past)) = r.read_float128(at) else {
+        return None;
+    };
+    let row = Row {
+        kind: stored::FLOAT128,
+        id,
+        a: low,
+        b: high,
+        place: past.pos.saturating_sub(widths::FLOAT128) as u64,
+    };
+    put_row(t, n, row);
+    Some(past.pos)
+}
+
 // A text, where it is well-formed.
 pub fn text_at(r: Reader, t: &mut [u64], id: u64, at: Cursor, n: usize) -> Option<usize>
     requires { no_room t.old n ≡ false }
