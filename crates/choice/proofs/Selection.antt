@@ -10,11 +10,13 @@ use mir.Syntax.{w32}
 use mir.Val.{to_z, of_z, SFits}
 use mir.Facts.{to_z-of_z}
 use borrow.Author.Tests.{eq-eqb, ne_eqb}
+use Rattle.ground.specs.Choice.{pick}
 use Rattle.book.specs.declared.member.Run.{Run}
 use Rattle.std.specs.Prelude.{Some, None, Option as Found}
 use Rattle.book.specs.Types.{BookType, Member, default}
+use Rattle.book.specs.Rules.{is_enum}
 use Rattle.book.specs.Places.{member_at, type_at, types_by, places_left, listed, Started, PlaceOf}
-use Rattle.book.specs.Labels.{or_else, first_with, last_default, told}
+use Rattle.book.specs.Labels.{or_else, first_where, first_with, last_default, told}
 use Rattle.book.proofs.Places.{listed_none, listed_some}
 use Rattle.book.proofs.Search.{where_found, where_turn, where_end}
 use Rattle.choice.specs.Select.{first_default, first_of, first_label, label_of, default_value, by_default_value, selected_of}
@@ -42,7 +44,18 @@ unfolding first_label
 label_first [] = refl
 label_first (l ∷ ls) = refl
 
+either_zero : (t : Bool) → pos 0 ≡ pick t (pos 0) (pos 0)
+either_zero true = refl
+either_zero false = refl
+
 module _ (b : List ℕ) (at : ℕ) where
+  -- a type that has no member has no literal
+  pub value_zero : (ms : Run) → Started b at ms → places_left ms ≡ [] → pos 0 ≡ default_value (type_at b at)
+  unfolding default_value first_default first_where or_else first_of label_of
+  value_zero ms s h =
+      let e : (type_at b at).members ≡ [] = sym s.is ∙ listed_none b ms h in
+      rw e (either_zero (is_enum (type_at b at)))
+
   pub value_none : (kind : ℕ) → kind ≡ (type_at b at).kind → (kind ≡ 21 → ⊥) → pos 0 ≡ default_value (type_at b at)
   unfolding default_value
   value_none kind e h = rw (← e, ne_eqb kind 21 h)
@@ -64,10 +77,6 @@ module _ (b : List ℕ) (at : ℕ) where
       pub value_first : (p : ℕ) (t : Run) → places_left ms ≡ p ∷ places_left t → (z : ℤ) → z ≡ get_or (member_at b p).labels 0 (pos 0) → z ≡ default_value (type_at b at)
       unfolding first_of label_of
       value_first p t y z g = g ∙ label_first (member_at b p).labels ∙ sym (rest ∙ ap (λ (l : List Member). label_of (first_of l)) (listed_some b ms p t y))
-
-      pub value_zero : places_left ms ≡ [] → pos 0 ≡ default_value (type_at b at)
-      unfolding first_of label_of
-      value_zero h = sym (rest ∙ ap (λ (l : List Member). label_of (first_of l)) (listed_none b ms h))
 
 -- a signed result is handed on by its bits
 pub same_bits : (z y : ℤ) → SFits w32 z → z ≡ y → to_z w32 (of_z w32 z) ≡ y

@@ -25,6 +25,7 @@ fn first_default(book: &[u8], at: usize) -> Option<usize>
 }
 
 // The value that stands for a discriminator of the type at `at` where its own selects nothing. The Rust's get_default_discriminator_value.
+#[tactic(auto, using(book::proofs::Places::places_none, crate::proofs::Selection::value_zero))]
 pub fn default_value(book: &[u8], at: usize) -> i32
     ensures { result ≡ default_value (type_at book.now at) }
 {

@@ -29,6 +29,15 @@ came_done c {o = read d rs} h e = record { answered = e ∙ ap (coming_back c) h
 came_done c {o = short x} h e = record { answered = e ∙ ap (coming_back c) h.answered; table = h.table }
 came_done c {o = refused k} h e = record { answered = e ∙ ap (coming_back c) h.answered; table = h.table }
 
+-- what came back stands where it had to
+pub came_read : (c : Cursor) (r : Out) {y : Out} {d : Cursor} {n : ℕ} → y ≡ coming_back c r → y ≡ Ok (d, n) → ◌≡◌ {A = Out} (Ok (c, n)) (coming_back c r)
+unfolding coming_back
+came_read c (Ok (e, m)) {d = d} {n = n} h q =
+    let same : ◌≡◌ {A = Cursor × ℕ} (d, n) (c, m) = cc in
+    ap (λ (x : Cursor × ℕ). Ok (c, x.1)) same
+came_read c (Err (trouble.Short x)) h q = absurd cc
+came_read c (Err (trouble.Refused k)) h q = absurd cc
+
 -- what ends a Mutable structure
 module _ (s : List ℕ) (set : Settings) (end : ℕ) (c : Cursor) (n : ℕ) (t : List ℕ) where
   pub ending_marker : set.version ≡ Xcdr1 → (g : Place) → g ≡ seek_to_sentinel s set c → (d : Cursor) → g ≡ Ok d → Done (ending_by s set set.version end c) n t t (Ok (d, n))

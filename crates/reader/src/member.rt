@@ -23,6 +23,7 @@ use wire::settings::Version;
 impl<'a> Deserializer<'a> {
     // Serialization rules 19 and 20: an optional member of a Final or Appendable type. XCDR1 looks it up, XCDR2 asks a boolean.
     #[cycle(reading)]
+    #[tactic(auto, unfolding(crate::specs::Member::optional_by, crate::specs::Member::on_present, table::specs::Code::Outcome::answer, table::specs::Outcome::rows_of, table::specs::Rows::words))]
     pub fn option(&self, t: &mut [u64], p: usize, c: Cursor, n: usize, depth: usize) -> Out
         ensures { Done (optional_in self.now depth (member_at self.now.types.book.now p) c (room t.old n)) n t.old t.new result }
     {
@@ -60,7 +61,8 @@ impl<'a> Deserializer<'a> {
                     types: self.types,
                     reader,
                 };
-                came_back(c, own.found(t, p, length, d, n, depth))
+                let (_, m) = came_back(c, own.found(t, p, length, d, n, depth))?;
+                Ok((c, m))
             }
             Sought::Absent => Ok((c, n)),
             Sought::Unsettled => self.located(t, p, wanted, c, n, depth),
@@ -92,7 +94,8 @@ impl<'a> Deserializer<'a> {
                 set: self.reader.set,
             },
         };
-        came_back(back, own.found(t, p, length, d, n, depth))
+        let (_, m) = came_back(back, own.found(t, p, length, d, n, depth))?;
+        Ok((back, m))
     }
 
     // The value of a member that was found, from its own data. The crate's XCDR2 takes a sequence of primitives by the length that was found.

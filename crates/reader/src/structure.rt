@@ -31,7 +31,7 @@ impl<'a> Deserializer<'a> {
                     place = next;
                     m = k;
                 }
-                Err(e) => return ended_by(self.types.book, at, p, e, m),
+                Err(e) => return ended_by(self.types.book, at, p, e, (place, m)),
             }
         }
         Ok((place, m))

@@ -25,13 +25,13 @@ pub fn absorbs(book: &[u8], at: usize, p: usize) -> bool
     (extensibility_at(book, at) == 1) | (construct(book, p) == 0)
 }
 
-// What a structure comes to, whose type is at `at`, where the member at p was not read and n rows stand: too few bytes may end it as read.
+// What a structure comes to, whose type is at `at` and which was read so far, where the member at p was not: too few bytes may end it as read.
 #[tactic(auto, using(std::proofs::lemmas::Bool::Decides::nat_tests), unfolding(crate::specs::Code::Ending::ended_if))]
-pub fn ended_by(book: &[u8], at: usize, p: usize, e: Trouble, n: usize) -> Out
-    ensures { result ≡ ended_if (absorbs (type_at book.now at) (member_at book.now p)) n e }
+pub fn ended_by(book: &[u8], at: usize, p: usize, e: Trouble, so_far: (Cursor, usize)) -> Out
+    ensures { result ≡ ended_if (absorbs (type_at book.now at) (member_at book.now p)) so_far.1 e }
 {
     match e {
-        Trouble::Short(x) if absorbs(book, at, p) => Ok((x.at, n)),
+        Trouble::Short(x) if absorbs(book, at, p) => Ok((x.at, so_far.1)),
         _ => Err(e),
     }
 }

@@ -55,6 +55,7 @@ impl<'a> Deserializer<'a> {
 
     // The member that the discriminator at p selects, of the union at `at`.
     #[cycle(reading)]
+    #[tactic(auto, unfolding(crate::specs::Union::on_discriminator, table::specs::Code::Outcome::answer, table::specs::Outcome::rows_of, table::specs::Rows::words))]
     pub fn chosen(
         self,
         t: &mut [u64],

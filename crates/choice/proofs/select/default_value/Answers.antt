@@ -1,4 +1,4 @@
-use Rattle.choice.proofs.Selection.{same_bits, value_default, value_first, value_zero, value_none}
+use Rattle.choice.proofs.Selection.{same_bits, value_default, value_first, value_none}
 use borrow.Author.Rules.{rules}
 use Rattle.choice.proofs.select.default_value.Goals as goal
 
@@ -8,9 +8,6 @@ returns-in-Some c = search (rules, same_bits, value_default)
 pub returns-in-Some-next : goal.returns-in-Some-next
 returns-in-Some-next c =
     same_bits _ _ (record { sfits = c.label-in-Some-next.type_inv }) (value_first _ _ _ c.kind.ensures.0 c.if-kind-eq-ENUM.true _ c.first_default.ensures c.in_default.is _ c.members-literals.ensures _ _ c.in-Some-next.ensures.steps _ c.label-in-Some-next.ensures)
-
-pub returns-in_default-next : goal.returns-in_default-next
-returns-in_default-next c = value_zero _ _ _ c.kind.ensures.0 c.if-kind-eq-ENUM.true _ c.first_default.ensures c.in_default.is _ c.members-literals.ensures c.in_default-next.ensures.steps.0
 
 pub returns-else-kind-eq-ENUM : goal.returns-else-kind-eq-ENUM
 returns-else-kind-eq-ENUM c = search (rules, value_none)

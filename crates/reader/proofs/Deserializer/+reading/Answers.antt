@@ -12,10 +12,11 @@ use Rattle.reader.proofs.RunSteps.{run_start, run_turn, run_failed, run_end, run
 use Rattle.reader.proofs.NestedSteps.{nested_unfit, nested_deep, nested_full, nested_read, nested_failed, place_kept, body_mstruct, no_mutable_structure, body_there, body_rest, body_failed, body_unread}
 use Rattle.reader.proofs.LookedSteps.{mstruct_short, mstruct_members, mstruct_hint, looked_start, looked_aligned, looked_turn, looked_failed, looked_end, found_came, found_quick, found_next, found_still, found_at, own_at, hint_on}
 use Rattle.reader.proofs.PlainSteps.{fmember_quick, fmember_next, fmember_left, fmember_from, member_kind, found_taken, found_done, found_fits, found_left}
-use Rattle.reader.proofs.MemberSteps.{fmember_opened, found_opened, mmember_came, is_back, with_found, mmember_short, mmember_absent, optional_unread}
+use Rattle.reader.proofs.MemberSteps.{fmember_opened, found_opened, mmember_came, is_back, with_found, mmember_short, mmember_absent}
+use Rattle.reader.proofs.BeginningSteps.{came_read}
 use Rattle.reader.proofs.ListSteps.{rows_next, rows_past}
 use Rattle.reader.proofs.StructureSteps.{fmembers_start, fmembers_turn, fmembers_ended, fmembers_end}
-use Rattle.reader.proofs.UnionSteps.{chosen_failed, union_empty, union_failed, union_read}
+use Rattle.reader.proofs.UnionSteps.{union_empty, union_failed, union_read}
 use Rattle.reader.proofs.ValueSteps.{list_unread, list_uncounted, list_there, list_rest}
 use Rattle.reader.proofs.Deserializer.+reading.Goals as goal
 use Rattle.reader.proofs.Deserializer.+reading.Goals.{fmember-then-is_there+then-not-m+in_default+else-opens, fmember-then-is_there+else-not-m, fmember-else-is_there}
@@ -159,9 +160,6 @@ mmembers-loop-p-init t c = rw c.into_iter-p-iterator.ensures.into_iter_gives (lo
 pub mmembers-returns : goal.mmembers-returns
 mmembers-returns t c = looked_end c.loop-p.invariant c.in-None.ensures.steps.0 c.ending.ensures
 
-pub chosen-returns-in_err-d : goal.chosen-returns-in_err-d
-chosen-returns-in_err-d t c = rw (exits c.from_residual.ensures.1) (chosen_failed _ _ _ _ _ _ _ _ _ _ _ _ _ c.in_err-d.was)
-
 pub chosen-returns-then-mutable : goal.chosen-returns-then-mutable
 chosen-returns-then-mutable t c = search (rules, chosen_laws, c.in_ok-d.was)
 
@@ -231,12 +229,6 @@ value-returns-in-Some t c = search (rules, value_laws)
 pub value-returns : goal.value-returns
 value-returns t c = search (rules, value_laws)
 
-pub option-returns-in_err-present-in-Xcdr2 : goal.option-returns-in_err-present-in-Xcdr2
-option-returns-in_err-present-in-Xcdr2 t c = rw (exits c.from_residual.ensures.1) (optional_unread _ _ _ _ _ _ _ _ _ c.in-Xcdr2.is _ c.read_boolean.ensures _ c.in_err-present-in-Xcdr2.was)
-
-pub option-returns-else-present : goal.option-returns-else-present
-option-returns-else-present t c = search (rules, option_laws, c.in_ok-present-in-Xcdr2.was)
-
 pub listed-returns-in_err-d : goal.listed-returns-in_err-d
 listed-returns-in_err-d t c = rw (exits c.from_residual.ensures.1) (list_unread _ _ _ _ _ _ _ _ _ _ _ c.primitive_element-primitive.ensures _ c.contents_at.ensures _ c.in_err-d.was)
 
@@ -259,7 +251,10 @@ pub located-returns-in_default : goal.located-returns-in_default
 located-returns-in_default t c = mmember_absent _ _ _ _ _ _ _ _ _ _ c.requires _ c.locate.ensures _ (with_found c.in_ok-found.was c.in_default.is)
 
 pub located-returns : goal.located-returns
-located-returns t c = mmember_came _ _ _ _ _ _ _ _ _ _ c.requires _ c.locate.ensures _ _ _ (with_found c.in_ok-found.was c.in-Some.is) _ c.cut.ensures _ _ c.found.ensures _ c.came_back.ensures
+located-returns t c = mmember_came _ _ _ _ _ _ _ _ _ _ c.requires _ c.locate.ensures _ _ _ (with_found c.in_ok-found.was c.in-Some.is) _ c.cut.ensures _ _ c.found.ensures _ (came_read _ _ c.came_back.ensures c.in_ok-m.was)
+
+pub located-returns-in_err-m : goal.located-returns-in_err-m
+located-returns-in_err-m t c = rw (exits c.from_residual-in_err-m.ensures.1) (mmember_came _ _ _ _ _ _ _ _ _ _ c.requires _ c.locate.ensures _ _ _ (with_found c.in_ok-found.was c.in-Some.is) _ c.cut.ensures _ _ c.found.ensures _ (sym c.in_err-m.was ∙ c.came_back.ensures))
 
 pub mmembers-returns-in_err-m : goal.mmembers-returns-in_err-m
 mmembers-returns-in_err-m t c = rw (exits c.from_residual.ensures.1) (looked_failed c.loop-p.invariant _ _ c.in-Some.ensures.steps c.mmember.ensures _ c.in_err-m.was)
@@ -279,8 +274,11 @@ parts-returns-in_err-d t c = rw (exits c.from_residual.ensures.1) (union_failed 
 pub parts-returns : goal.parts-returns
 parts-returns t c = union_read _ _ _ _ _ _ _ c.members.ensures _ _ _ _ _ _ c.in-Some.ensures.steps _ _ c.first.ensures _ _ c.in_ok-d.was _ c.discriminator_at-v.ensures _ _ c.chosen.ensures
 
-pub mmember-returns-in_default : goal.mmember-returns-in_default
-mmember-returns-in_default t c = mmember_came _ _ _ _ _ _ _ _ _ _ c.id-wanted.ensures _ (sym (found_at _ _ _ c.value_at-d.ensures (c.look_up.ensures.found _ _ c.in-Found.is))) _ _ _ refl _ (own_at _ _ _ _ _ c.value_at-d.ensures c.cut.ensures) _ _ (found_left _ _ _ _ _ _ _ _ _ _ _ refl c.kind_found-kind.ensures (c.from.ensures ∙ c.id-wanted.ensures) _ _ c.any_at.ensures.quickly c.any_at.ensures.taken c.in_default.is _ _ c.found.ensures) _ c.came_back.ensures
+pub mmember-returns-in_ok-m-in-Found : goal.mmember-returns-in_ok-m-in-Found
+mmember-returns-in_ok-m-in-Found t c = mmember_came _ _ _ _ _ _ _ _ _ _ c.id-wanted.ensures _ (sym (found_at _ _ _ c.value_at-d.ensures (c.look_up.ensures.found _ _ c.in-Found.is))) _ _ _ refl _ (own_at _ _ _ _ _ c.value_at-d.ensures c.cut.ensures) _ _ (found_left _ _ _ _ _ _ _ _ _ _ _ refl c.kind_found-kind.ensures (c.from.ensures ∙ c.id-wanted.ensures) _ _ c.any_at.ensures.quickly c.any_at.ensures.taken c.in_default.is _ _ c.found.ensures) _ (came_read _ _ c.came_back.ensures c.in_ok-m-in-Found.was)
+
+pub mmember-returns-in_err-m-in-Found : goal.mmember-returns-in_err-m-in-Found
+mmember-returns-in_err-m-in-Found t c = rw (exits c.from_residual.ensures.1) (mmember_came _ _ _ _ _ _ _ _ _ _ c.id-wanted.ensures _ (sym (found_at _ _ _ c.value_at-d.ensures (c.look_up.ensures.found _ _ c.in-Found.is))) _ _ _ refl _ (own_at _ _ _ _ _ c.value_at-d.ensures c.cut.ensures) _ _ (found_left _ _ _ _ _ _ _ _ _ _ _ refl c.kind_found-kind.ensures (c.from.ensures ∙ c.id-wanted.ensures) _ _ c.any_at.ensures.quickly c.any_at.ensures.taken c.in_default.is _ _ c.found.ensures) _ (sym c.in_err-m-in-Found.was ∙ c.came_back.ensures))
 
 pub mmembers-overflow_add-m : goal.mmembers-overflow_add-m
 mmembers-overflow_add-m t c = found_next c.loop-p.invariant _ _ c.in-Some.ensures.steps _ _ _ _ (found_taken _ _ _ _ _ _ _ _ _ _ _ refl c.kind_found-kind.ensures (c.from-number.ensures ∙ c.id-wanted.ensures) _ _ c.value_at.ensures.0 c.value_at.ensures.1) c.in-Some-value_at.is c.well_formed.1.0.0
