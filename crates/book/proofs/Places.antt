@@ -209,11 +209,19 @@ module _ (b : List ℕ) (r : Run) (own : r.book.now ≡ b) where
   run_after ms s f = record { book = own; place = s.place; left = f; bytes = s.is; is = rw (listed_is, s.is, f) }
 
 module _ (b : List ℕ) (at : ℕ) (r : Bool) (e : r ≡ is_there b at 13) where
-  pub start_there : r ≡ true → Skipped b at 14 (at + 14)
-  start_there y = skip_to b at 14 (omega (arith, is_inside b at 13 r e y))
+  pub skip_there : r ≡ true → Skipped b at 14 (at + 14)
+  skip_there y = skip_to b at 14 (omega (arith, is_inside b at 13 r e y))
 
-  pub start_cut : r ≡ false → Skipped b at 14 (length b)
-  start_cut y = skip_over b at 14 (omega (arith, is_outside b at 13 r e y))
+  pub skip_cut : r ≡ false → Skipped b at 14 (length b)
+  skip_cut y = skip_over b at 14 (omega (arith, is_outside b at 13 r e y))
+
+  -- .. and the run that stands there
+  module _ (n : ℕ) (f : n ≡ pair (from b at) 12) (h : n < 65536) (s : Run) (own : s.book.now ≡ b) (left : s.left ≡ n) where
+    pub start_there : r ≡ true → s.at ≡ at + 14 → Started b at s
+    start_there y q = run_start b s own at (rw q (skip_there y)) (left ∙ f) (rw left h)
+
+    pub start_cut : r ≡ false → s.at ≡ length b → Started b at s
+    start_cut y q = run_start b s own at (rw q (skip_cut y)) (left ∙ f) (rw left h)
 
 length_places_of : (b : List ℕ) (p n : ℕ) → length (member_places b p n) ≡ n
 unfolding member_places

@@ -108,27 +108,32 @@ unfolding last_or told
 last_start b at s h = rw (h.is, or_none)
 
 module _ (b : List ℕ) (s : Run) (before : Found ℕ) (whole : Option Member) (inv : last_or b before (listed b s) ≡ whole) where
-  module _ (p : ℕ) (t : Run) (y : places_left s ≡ p ∷ places_left t) (r : Bool) (e : r ≡ default (member_at b p)) where
+  module _ (p : ℕ) (t : Run) (y : places_left s ≡ p ∷ places_left t) where
     step : or_else (last_default (listed b t)) (or_else (when (default (member_at b p)) (member_at b p)) (told b before)) ≡ whole
     unfolding last_or last_default
     step =
         let i : last_or b before (member_at b p ∷ listed b t) ≡ whole = rw (listed_some b s p t y) at inv in
         sym (or_or (last_default (listed b t)) (when (default (member_at b p)) (member_at b p)) (told b before)) ∙ i
 
-    pub last_here : r ≡ true → last_or b (Some p) (listed b t) ≡ whole
-    unfolding last_or or_else when told
-    last_here z =
-        let g : default (member_at b p) ≡ true = sym e ∙ z in
-        rw g at step
+    pub last_turn : (next : Found ℕ) → told b next ≡ or_else (when (default (member_at b p)) (member_at b p)) (told b before) → last_or b next (listed b t) ≡ whole
+    unfolding last_or
+    last_turn next f = rw f step
 
-    pub last_turn : r ≡ false → last_or b before (listed b t) ≡ whole
-    unfolding last_or or_else when
-    last_turn z =
-        let g : default (member_at b p) ≡ false = sym e ∙ z in
-        rw g at step
+    module _ (r : Bool) (e : r ≡ default (member_at b p)) where
+      pub last_here : r ≡ true → last_or b (Some p) (listed b t) ≡ whole
+      unfolding or_else when told
+      last_here z =
+          let g : default (member_at b p) ≡ true = sym e ∙ z in
+          last_turn (Some p) (rw g)
+
+      pub last_kept : r ≡ false → last_or b before (listed b t) ≡ whole
+      unfolding or_else when
+      last_kept z =
+          let g : default (member_at b p) ≡ false = sym e ∙ z in
+          last_turn before (rw g)
 
   pub last_end : places_left s ≡ [] → told b before ≡ whole
   unfolding last_or or_else last_default
   last_end h = rw (listed_none b s h) at inv
 
-pub ruleset last_laws = (last_here, last_turn, last_end)
+pub ruleset last_laws = (last_here, last_kept, last_end)

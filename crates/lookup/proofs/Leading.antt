@@ -23,7 +23,7 @@ use Rattle.lookup.specs.Search.{Seek, past_value, on_to}
 use Rattle.lookup.specs.Xcdr1 as xcdr1
 use Rattle.lookup.specs.Xcdr2 as xcdr2
 use Rattle.lookup.specs.Member.{located_v1, located_v2, looked_up, locate}
-use Rattle.lookup.specs.Code.Ahead.{search_by, AheadIs, AheadAt, value_at, HeadAt, HeadOrEnd, LongHead, MayStand, PassedTo, PassedNear}
+use Rattle.lookup.specs.Code.Ahead.{search_by, AheadIs, AheadAt, value_at, HeadAt, HeadOrEnd, LongHead, PassedTo, PassedNear}
 use Rattle.lookup.specs.Code.Straight.{located_by, Gone, LeadsTo, Past, Stepped, Steps, StepsFor, SoughtIs}
 use Rattle.lookup.specs.Xcdr1.{Header}
 use Rattle.lookup.specs.declared.straight.Sought.TheVariants as sought
@@ -232,19 +232,19 @@ module _ (s : List ℕ) (set : Settings) (id : ℕ) (c : Cursor) where
   unfolding locate after_move
   located_from e = rw e
 
-  pub sought_absent : (q : ℕ) → MayStand s c → LeadsTo s set id (cursor_at c.pos c.origin) q → length s - q < 4 → SoughtIs s set id c sought.Absent
+  pub sought_absent : (q : ℕ) → c.pos ≤ length s → (c.pos - c.origin) % 4 ≡ 0 → LeadsTo s set id (cursor_at c.pos c.origin) q → length s - q < 4 → SoughtIs s set id c sought.Absent
   unfolding Gone
-  sought_absent q may p h =
+  sought_absent q inside aligned p h =
       let k = p.place.inside in
       record {
         found = λ v n e. absurd (absent_found v n e);
         near = λ v n e. absurd (absent_found v n e);
-        absent = λ e. located_from (already s set true c may.inside may.aligned) ∙ by_search set.version _ refl ∙ p.gone (omega (arith, h, k)) c;
+        absent = λ e. located_from (already s set true c inside aligned) ∙ by_search set.version _ refl ∙ p.gone (omega (arith, h, k)) c;
       }
 
-  pub sought_found : (q : ℕ) (r : Option Ahead) (a : Ahead) → MayStand s c → LeadsTo s set id (cursor_at c.pos c.origin) q → 4 ≤ length s - q → AheadIs s set id (cursor_at q c.origin) r → r ≡ Some a → SoughtIs s set id c (sought.Found a.value a.length)
+  pub sought_found : (q : ℕ) (r : Option Ahead) (a : Ahead) → c.pos ≤ length s → (c.pos - c.origin) % 4 ≡ 0 → LeadsTo s set id (cursor_at c.pos c.origin) q → 4 ≤ length s - q → AheadIs s set id (cursor_at q c.origin) r → r ≡ Some a → SoughtIs s set id c (sought.Found a.value a.length)
   unfolding AheadIs
-  sought_found q r a may p h is e =
+  sought_found q r a inside aligned p h is e =
       record {
         found = λ v n f. let g = found_inv f in rw (← g.0, ← g.1) located;
         near = λ v n f. let g = found_inv f in rw (← g.0, ← g.1) told.near;
@@ -257,4 +257,4 @@ module _ (s : List ℕ) (set : Settings) (id : ℕ) (c : Cursor) where
       located : locate s set id c ≡ Ok (Some (a.length, value_at set.version a.value c.origin), c)
       located =
           let k = p.place.inside in
-          located_from (already s set true c may.inside may.aligned) ∙ looked s set set.version id a.length a.value c.origin c (p.same (omega (arith, h, k)) ∙ told.found) told.some
+          located_from (already s set true c inside aligned) ∙ looked s set set.version id a.length a.value c.origin c (p.same (omega (arith, h, k)) ∙ told.found) told.some

@@ -183,6 +183,19 @@ module _ {types : List BookType} {s : List ℕ} {set : Settings} {nest : Nest} {
   abbrev left_from : List Member → Cursor → ℕ → Outcome
   left_from = mmembers_of types s set nest
 
+  -- whichever member it is
+  module _ (p : ℕ) where
+    module _ {size : ℕ} {c : Cursor} (there : locate s set (member_at b p).id back ≡ Ok (Some (size, c), back)) {own : List ℕ} (cut : own ≡ cut_at set s (c.pos + size)) where
+      came : mmember_of types s set nest (member_at b p) back (room u m) ≡ back_to back (found_value types own set nest (member_at b p) size c (room u m))
+      unfolding mmember_of on_located found_of
+      came = ap (on_located types s set nest (member_at b p) (room u m)) there ∙ ap (λ (x : List ℕ). back_to back (found_value types x set nest (member_at b p) size c (room u m))) (sym cut)
+
+    pub found_next : (own : List ℕ) (c : Cursor) (v : List ℕ) (x : Option ℕ) → ((f : Nest) (j : ℕ) → Quickly (found_value types own set f (member_at b p) j c (room u m)) 1 m c.origin u v x) → {y : ℕ} → x ≡ Some y → length t < 2 ^ 64 → Fits w64 (m + 1)
+    found_next own c v x q some k = quick_next _ _ _ _ _ x some (q (λ w ty id d r. read d []) 0) (rw (← inv.so.filled.long) at k)
+
+    pub found_still : (own : List ℕ) (c : Cursor) (v : List ℕ) (x : Option ℕ) → ((f : Nest) (j : ℕ) → Quickly (found_value types own set f (member_at b p) j c (room u m)) 1 m c.origin u v x) → x ≡ None → LookedSofar types s set nest back b end whole n t v ms m h
+    found_still own c v x q none = rw (quick_none _ 1 m c.origin u v x none (q nest 0)) inv
+
   module _ (p : ℕ) (ns : Run) (y : places_left ms ≡ p ∷ places_left ns) where
     pub looked_aligned : align_to s set.version back 4 ≡ Ok back
     looked_aligned = inv.aligned (one_more b ms ns p y)
@@ -208,23 +221,13 @@ module _ {types : List BookType} {s : List ℕ} {set : Settings} {nest : Nest} {
 
     -- a member that was found where the hint says, from its own data
     module _ {size : ℕ} {c : Cursor} (there : locate s set (member_at b p).id back ≡ Ok (Some (size, c), back)) {own : List ℕ} (cut : own ≡ cut_at set s (c.pos + size)) where
-      came : mmember_of types s set nest (member_at b p) back (room u m) ≡ back_to back (found_value types own set nest (member_at b p) size c (room u m))
-      unfolding mmember_of on_located found_of
-      came = ap (on_located types s set nest (member_at b p) (room u m)) there ∙ ap (λ (x : List ℕ). back_to back (found_value types x set nest (member_at b p) size c (room u m))) (sym cut)
-
       pub found_came : {v : List ℕ} {r o : Out} → Done (found_value types own set nest (member_at b p) size c (room u m)) m u v r → o ≡ coming_back back r → Done (mmember_of types s set nest (member_at b p) back (room u m)) m u v o
-      found_came d e = is_same came (came_done back d e)
+      found_came d e = is_same (came p there cut) (came_done back d e)
 
       -- .. and was taken where it stands
       pub found_quick : (v : List ℕ) (x : Option ℕ) → ((f : Nest) (j : ℕ) → Quickly (found_value types own set f (member_at b p) j c (room u m)) 1 m c.origin u v x) → {y : ℕ} → x ≡ Some y → {g : Hint} → TrueHint s set back back.origin g → LookedSofar types s set nest back b end whole n t v ns (m + 1) g
       unfolding coming_back
       found_quick v x q some z = looked_turn (found_came (quick_done 1 x some (q nest size)) refl) refl z
-
-    pub found_next : (own : List ℕ) (c : Cursor) (v : List ℕ) (x : Option ℕ) → ((f : Nest) (j : ℕ) → Quickly (found_value types own set f (member_at b p) j c (room u m)) 1 m c.origin u v x) → {y : ℕ} → x ≡ Some y → length t < 2 ^ 64 → Fits w64 (m + 1)
-    found_next own c v x q some k = quick_next _ _ _ _ _ x some (q (λ w ty id d r. read d []) 0) (rw (← inv.so.filled.long) at k)
-
-    pub found_still : (own : List ℕ) (c : Cursor) (v : List ℕ) (x : Option ℕ) → ((f : Nest) (j : ℕ) → Quickly (found_value types own set f (member_at b p) j c (room u m)) 1 m c.origin u v x) → x ≡ None → LookedSofar types s set nest back b end whole n t v ms m h
-    found_still own c v x q none = rw (quick_none _ 1 m c.origin u v x none (q nest 0)) inv
 
   pub looked_end : places_left ms ≡ [] → {r : Out} → ((t : List ℕ) → Done (ending_by s set set.version end back) m t t r) → Done whole n t u r
   unfolding mmembers_of and_then prepend

@@ -34,8 +34,8 @@ use wire::reader::Reader;
 // How many values may be opened one in the other; the root is the first.
 const DEPTH: usize = 16;
 
-// The types, and what values of them are read from. It goes by value to what the compiler takes into its caller, and is lent to `value`, `elements`, `option` and
-// `found`, which are called: a copy for each of these calls would lie on the stack of every value that is open.
+// The types, and what values of them are read from. It is lent to `value`, `elements`, `option` and `found`, of which a copy for each call would lie on the stack of
+// every value that is open. The others take it by value: the compiler takes most into their caller, and `as_nested` and `mmember`, which are called, are quicker so.
 #[derive(Clone, Copy)]
 pub struct Deserializer<'a> {
     pub types: Types<'a>,

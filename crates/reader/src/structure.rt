@@ -78,14 +78,12 @@ impl<'a> Deserializer<'a> {
                 types: self.types,
                 reader,
             };
-            if kinds::opens(kind) {
-                let ty = type_index(book, p);
-                let read = own.as_nested(t, ty, number, 1, c, m, depth);
-                (_, m) = came_back(back, read)?;
+            let read = if kinds::opens(kind) {
+                own.as_nested(t, type_index(book, p), number, 1, c, m, depth)
             } else {
-                let read = own.found(t, p, ahead.length, c, m, depth);
-                (_, m) = came_back(back, read)?;
-            }
+                own.found(t, p, ahead.length, c, m, depth)
+            };
+            (_, m) = came_back(back, read)?;
         }
         self.ending(end, back, h, m)
     }

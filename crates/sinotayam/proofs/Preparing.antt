@@ -7,7 +7,7 @@ use Prim.Native.Nat.{ℕ, zero, suc, ◌+◌, ◌-◌, ◌≤◌, ◌<◌}
 use native.Mathlib.Omega.{arith}
 use native.Mathlib.Nat.{le_refl}
 use lib.Dec.{ltb}
-use lib.ListN.{length, get_or, take, drop, set, drop_of_length-le}
+use lib.ListN.{length, get_or, take, drop, set, length-append, length-drop, drop_of_length-le}
 use lib.Seq.{take_at, take-length}
 use borrow.Rule.Slice.PartMut.{put_mid}
 use borrow.Author.Tests.{lt-ltb, eq-eqb, ne_eqb}
@@ -42,24 +42,25 @@ after_count b (x ∷ xs) n ys g few h k =
 pub not_right : (b : List ℕ) (x : Fault) → fault_of b ≡ Err x → book_ok b ≡ false
 not_right b x is = told_wrong b x.at x.reason is
 
--- an index with all places, of a right book
-module _ (b lent : List ℕ) (is : fault_of b ≡ Ok tt) (n : ℕ) (g : n ≡ type_count b) (h : n < length lent) where
+module _ (b lent : List ℕ) (is : fault_of b ≡ Ok tt) where
   kept : book_ok b ≡ true
   kept = told_nothing b is
 
-  pub prepare_good : code_of Read ≡ prepare_of b lent
-  unfolding prepare_of has_places code_of
-  prepare_good = rw (kept, lt-ltb (type_count b) (length lent) (omega (arith, g, h)))
+  -- an index with all places, of a right book
+  module _ (n : ℕ) (g : n ≡ type_count b) (h : n < length lent) where
+    pub prepare_good : code_of Read ≡ prepare_of b lent
+    unfolding prepare_of has_places code_of
+    prepare_good = rw (kept, lt-ltb (type_count b) (length lent) (omega (arith, g, h)))
 
-  pub index_good : (ys : List ℕ) → ys ≡ indexed b (take (length lent - 1) (drop 1 lent)) → set (put_mid 1 (length lent - 1) lent ys) 0 n ≡ prepared_from b lent
-  unfolding prepared_from has_places
-  index_good ys k =
-      rw (kept, lt-ltb (type_count b) (length lent) (omega (arith, g, h))) (after_count b lent n ys g (count_good b kept).1 h k)
+    pub index_good : (ys : List ℕ) → ys ≡ indexed b (take (length lent - 1) (drop 1 lent)) → set (put_mid 1 (length lent - 1) lent ys) 0 n ≡ prepared_from b lent
+    unfolding prepared_from has_places
+    index_good ys k =
+        rw (kept, lt-ltb (type_count b) (length lent) (omega (arith, g, h))) (after_count b lent n ys g (count_good b kept).1 h k)
 
 -- a reading's own words, of which the judge was lent all but the first: that one, and what the judge leaves
-own_words : (b own ys : List ℕ) (m : ℕ) → 1 ≤ length own → m ≡ length own - 1 → ys ≡ pick (head_ok b) (indexed b (take m (drop 1 own))) (take m (drop 1 own)) → put_mid 1 m own ys ≡ get_or own 0 0 ∷ pick (head_ok b) (indexed b (drop 1 own)) (drop 1 own)
-own_words b [] ys m long l k = absurd (omega arith)
-own_words b (x ∷ xs) ys m long l k =
+own_judged : (b own ys : List ℕ) (m : ℕ) → 1 ≤ length own → m ≡ length own - 1 → ys ≡ pick (head_ok b) (indexed b (take m (drop 1 own))) (take m (drop 1 own)) → put_mid 1 m own ys ≡ get_or own 0 0 ∷ pick (head_ok b) (indexed b (drop 1 own)) (drop 1 own)
+own_judged b [] ys m long l k = absurd (omega arith)
+own_judged b (x ∷ xs) ys m long l k =
     let e : m ≡ length xs = omega arith in
     let w : ys ≡ pick (head_ok b) (indexed b xs) xs = rw (e, take-length xs) at k in
     rw (e, drop_of_length-le xs (le_refl (length xs)), append-nil, w)
@@ -73,7 +74,7 @@ module _ (b own ys : List ℕ) (m : ℕ) (long : 65 ≤ length own) (l : m ≡ l
       rw l (index_good b own is n g (omega (arith, long, g, (count_good b e).1)) ys w)
 
   words : put_mid 1 m own ys ≡ get_or own 0 0 ∷ pick (head_ok b) (indexed b (drop 1 own)) (drop 1 own)
-  words = own_words b own ys m (omega (arith, long)) l k
+  words = own_judged b own ys m (omega (arith, long)) l k
 
   pub own_right : (n : ℕ) → fault_of b ≡ Ok tt → n ≡ type_count b → set (put_mid 1 m own ys) 0 n ≡ own_from b own
   unfolding own_from
@@ -140,10 +141,33 @@ module _ (b : List ℕ) (f : Verdict) (found : f ≡ fault_of b) (next : List Bo
   read_bad x v w r is d = settled_same (rw (← found, is)) d
 
   -- with an index of the call's own, of 65 words or more
-  pub read_own : (own index : List ℕ) (v w : List ℕ) (r : Answer) → f ≡ Ok tt → 65 ≤ length own → index ≡ prepared_from b own → Settled (with_index b index next) v w r → Settled (with_book b next) v w r
+  pub read_index : (own index : List ℕ) (v w : List ℕ) (r : Answer) → f ≡ Ok tt → 65 ≤ length own → index ≡ prepared_from b own → Settled (with_index b index next) v w r → Settled (with_book b next) v w r
   unfolding has_places
-  read_own own index v w r is l k d =
+  read_index own index v w r is l k d =
       let e : book_ok b ≡ true = told_nothing b (sym found ∙ is) in
       let few : type_count b ≤ 64 = (count_good b e).1 in
       let h : ltb (type_count b) (length own) ≡ true = lt-ltb (type_count b) (length own) (omega arith) in
       settled_same (sym (rw k (same_good b own next e h))) d
+
+  -- the count, and the words t as the judge leaves them
+  module _ (t ys : List ℕ) (n : ℕ) (is : f ≡ Ok tt) (long : 64 ≤ length t) (g : n ≡ type_count b) (k : ys ≡ pick (head_ok b) (indexed b t) t) where
+    own_same : n ∷ (ys ++ []) ≡ prepared_from b (0 ∷ t)
+    unfolding prepared_from has_places
+    own_same =
+        let e : book_ok b ≡ true = told_nothing b (sym found ∙ is) in
+        let few : type_count b ≤ 64 = (count_good b e).1 in
+        let h : ltb (type_count b) (length (0 ∷ t)) ≡ true = lt-ltb (type_count b) (length (0 ∷ t)) (omega arith) in
+        let i : index_count b (length t) ≡ type_count b = omega arith in
+        let w : ys ≡ places_from b 7 (type_count b) ++ drop (type_count b) t = rw (head_good b e, i) at k in
+        rw (e, h, append-nil ys, w, g)
+
+    pub read_own : (v w : List ℕ) (r : Answer) → Settled (with_index b (n ∷ (ys ++ [])) next) v w r → Settled (with_book b next) v w r
+    read_own v w r d = read_index (0 ∷ t) (n ∷ (ys ++ [])) v w r is (omega (arith, long)) own_same d
+
+-- its length
+pub own_words : (b t ys : List ℕ) → ys ≡ pick (head_ok b) (indexed b t) t → length t ≡ 64 → 65 ≡ suc (length (ys ++ []))
+own_words b t ys k l = rw (append-nil ys, k) (by_head (head_ok b))
+  where
+    by_head : (f : Bool) → 65 ≡ suc (length (pick f (indexed b t) t))
+    by_head true = simp (length-append, length_places, length-drop) (omega arith)
+    by_head false = omega arith

@@ -50,8 +50,8 @@ module _ (s : List ℕ) (at : ℕ) where
   unfolding on_row
   row_tested rs p n h e t = record { begun = h; counted = rw (← e) t }
 
-  pub row_few : (rs : List Range) → at < length s → length s - at < suc (length rs) → Row s at (ranges rs) None
-  row_few rs h k = row_tested rs false None h (sym (too_few rs (drop (at + 1) s) (simp length-drop (omega arith)))) refl
+  pub row_short : (rs : List Range) → at < length s → length s - at < suc (length rs) → Row s at (ranges rs) None
+  row_short rs h k = row_tested rs false None h (sym (too_few rs (drop (at + 1) s) (simp length-drop (omega arith)))) refl
 
 from_column : (cs : List In) (i : ℕ) (d : In) → i < length cs → drop i cs ≡ get_or cs i d ∷ drop (i + 1) cs
 from_column cs i d h = rw (add-one i, drop-cons cs i d h)
@@ -65,8 +65,8 @@ held_none s at cs = let e : at + 1 + 0 ≡ at + 1 = omega arith in rw e
 
 -- a line's columns, one after the other
 module _ (s : List ℕ) (at : ℕ) (cs : List In) (n : ℕ) (long : length cs ≡ n) where
-  pub row_short : at < length s → length s - at ≤ n → Row s at (ranges (map range_of cs)) None
-  row_short h k = row_few s at (map range_of cs) h (simp length-map (omega (arith, long)))
+  pub held_short : at < length s → length s - at ≤ n → Row s at (ranges (map range_of cs)) None
+  held_short h k = row_short s at (map range_of cs) h (simp length-map (omega (arith, long)))
 
   module _ (i : ℕ) (d : In) (held : Held s at cs i) (l : i < n) (k : at + 1 + i < length s) (b : Bool) (is : b ≡ within (range_of (get_or cs i d)) (get_or s (at + 1 + i) 0)) where
     next : both b (begins (map range_of (drop (i + 1) cs)) (drop (at + 1 + (i + 1)) s)) ≡ begins (map range_of cs) (drop (at + 1) s)
@@ -75,14 +75,14 @@ module _ (s : List ℕ) (at : ℕ) (cs : List In) (n : ℕ) (long : length cs �
     pub held_next : b ≡ true → Held s at cs (i + 1)
     held_next e = rw e at next
 
-    pub row_none : b ≡ false → at < length s → Row s at (ranges (map range_of cs)) None
-    row_none e h = row_tested s at (map range_of cs) false None h (rw e at next) refl
+    pub held_broken : b ≡ false → at < length s → Row s at (ranges (map range_of cs)) None
+    held_broken e h = row_tested s at (map range_of cs) false None h (rw e at next) refl
 
   pub row_whole : (i : ℕ) → Held s at cs i → n ≤ i → at < length s → Row s at (ranges (map range_of cs)) (Some (n + 1))
   unfolding begins
   row_whole i held l h = row_tested s at (map range_of cs) true (Some (n + 1)) h (rw (drop_of_length-le cs {i = i} (rw long l)) at held) (rw (length-map, long, add-one))
 
-pub ruleset row_laws = (held_none, held_next, row_short, row_none, row_whole)
+pub ruleset row_laws = (held_none, held_next, held_short, held_broken, row_whole)
 
 -- ranges that are wanted: bytes that begin with one in each, and then whole rows
 both_pick : (w b g : Bool) → both w (pick b g false) ≡ pick (both w b) g false
@@ -115,14 +115,14 @@ module _ (x : ℕ) (xs : List ℕ) where
   taken n nothing e = absurd (cc)
   taken n (ranges rs) e = row_taken n (begins rs xs) rs refl e
 
-  row_untaken : (b : Bool) (rs : List Range) → begins rs xs ≡ b → None ≡ pick b (Some (suc (length rs))) None → false ≡ rest_good table37 xs rs
-  row_untaken true rs e f = absurd (cc)
-  row_untaken false rs e f = rw (wanted rs xs, e)
+  row_none : (b : Bool) (rs : List Range) → begins rs xs ≡ b → None ≡ pick b (Some (suc (length rs))) None → false ≡ rest_good table37 xs rs
+  row_none true rs e f = absurd (cc)
+  row_none false rs e f = rw (wanted rs xs, e)
 
-  untaken : (f : Follow) → None ≡ on_row f xs → false ≡ on_follow f (λ rs. rest_good table37 xs rs)
+  none : (f : Follow) → None ≡ on_row f xs → false ≡ on_follow f (λ rs. rest_good table37 xs rs)
   unfolding on_row
-  untaken nothing e = refl
-  untaken (ranges rs) e = row_untaken (begins rs xs) rs refl e
+  none nothing e = refl
+  none (ranges rs) e = row_none (begins rs xs) rs refl e
 
 pub stays : (s : List ℕ) (at : ℕ) → at ≤ length s → Passed s at at
 stays s at h = record { beyond = omega arith; inside = h; same = refl }
@@ -153,7 +153,7 @@ module _ (s : List ℕ) (i : ℕ) (h : i < length s) (r : Option ℕ) (is : r �
   unfolding rest_good row_length
   turn_bad e =
       let d = from s i h in
-      rw d (untaken (get_or s i 0) (drop (i + 1) s) (follow table37 (get_or s i 0)) (sym e ∙ (rw d at is)))
+      rw d (none (get_or s i 0) (drop (i + 1) s) (follow table37 (get_or s i 0)) (sym e ∙ (rw d at is)))
 
 -- past the last sequence
 pub at_end : (s : List ℕ) (i : ℕ) → length s ≤ i → true ≡ rest_good table37 (drop i s) []

@@ -80,24 +80,24 @@ taken st next start n u (short x) f = refl
 taken st next start n u (units us d) f = ap (λ (t : Bool). text_if t start n d) (f us)
 
 -- one turn of the loop over the units, and its end; `whole` is what all of them give
-module _ (s : List ℕ) (set : Settings) (c : Cursor) (st : State) (start n i : ℕ) (whole : Text) (inv : resumed st start n (read_units s set (n - i) c) ≡ whole) where
-  module _ (h : i < n) (r : Number) (read : ReadIs s set c 2 r) where
-    unit_first : resumed st start n (after_number short r (λ u d. unit_then u (read_units s set (n - (i + 1)) d))) ≡ whole
+module _ (s : List ℕ) (set : Settings) (c : Cursor) (st : State) (start n left : ℕ) (whole : Text) (inv : resumed st start n (read_units s set left c) ≡ whole) where
+  module _ (h : 0 < left) (r : Number) (read : ReadIs s set c 2 r) where
+    unit_first : resumed st start n (after_number short r (λ u d. unit_then u (read_units s set (left - 1) d))) ≡ whole
     unfolding read_units
-    unit_first = let e : n - i ≡ suc (n - (i + 1)) = omega arith in rw read.is (rw e at inv)
+    unit_first = let e : left ≡ suc (left - 1) = omega arith in rw read.is (rw e at inv)
 
     pub units_short : (x : Shortage) → r ≡ Err x → Err (unread.Short x) ≡ whole
     unfolding resumed after_number
     units_short x e = rw e at unit_first
 
-    pub units_turn : (u : ℕ) (d : Cursor) → r ≡ Ok (u, d) → (next : State) → ((us : List ℕ) → good_from next us ≡ good_from st (u ∷ us)) → resumed next start n (read_units s set (n - (i + 1)) d) ≡ whole
+    pub units_turn : (u : ℕ) (d : Cursor) → r ≡ Ok (u, d) → (next : State) → ((us : List ℕ) → good_from next us ≡ good_from st (u ∷ us)) → (rest : ℕ) → rest ≡ left - 1 → resumed next start n (read_units s set rest d) ≡ whole
     unfolding after_number
-    units_turn u d e next f = taken st next start n u (read_units s set (n - (i + 1)) d) f ∙ (rw e at unit_first)
+    units_turn u d e next f rest k = rw k (taken st next start n u (read_units s set (left - 1) d) f ∙ (rw e at unit_first))
 
-  module _ (h : n ≤ i) where
+  module _ (h : left ≤ 0) where
     none_left : resumed st start n (units [] c) ≡ whole
     unfolding read_units
-    none_left = let z : n - i ≡ 0 = omega arith in rw z at inv
+    none_left = let z : left ≡ 0 = omega arith in rw z at inv
 
     pub units_whole : st ≡ state.Whole → Ok (start, n, c) ≡ whole
     unfolding resumed rest_good

@@ -68,7 +68,10 @@ module _ (s : List ℕ) (o : ByteOrder) (kind w count pos n : ℕ) (t₀ : List 
       pub step_fits : Fits w64 (i * w)
       step_fits = omega (arith, turn_inside)
 
-      pub turn_fits : Fits w64 (pos + i * w)
+      pub place_fits : Fits w64 (pos + i * w)
+      place_fits = omega (arith, turn_inside)
+
+      pub turn_fits : Fits w64 (pos + i * w + w)
       turn_fits = omega (arith, turn_inside)
 
   module _ (t : List ℕ) (i : ℕ) (inv : FillSofar t i) where
@@ -101,7 +104,7 @@ module _ (s : List ℕ) (o : ByteOrder) (kind w count pos n : ℕ) (t₀ : List 
         let k : rows_from s o kind count 0 pos ≡ inv.new = inv.same ∙ rw e (append-nil inv.new) in
         rw k inv.filled
 
-pub ruleset fill_laws = (fill_start, turn_inside, step_fits, turn_fits, turn_place, fill_turn, fill_end)
+pub ruleset fill_laws = (fill_start, turn_inside, step_fits, place_fits, turn_fits, turn_place, fill_turn, fill_end)
 
 -- the most numbers that are asked for
 pub count_most : (count : ℕ) → (eqb count 0 || ltb 0xFFFFFFFF count) ≡ false → count ≤ 0xFFFFFFFF

@@ -1,4 +1,4 @@
-// The quick way: numbers, booleans and texts that are there whole, and whose rows have a place. Most members and elements are such. It reads by the same
+// The quick way: numbers, booleans and texts that are there whole, and whose rows have a place; of FLOAT128s those of a list alone. Most members and elements are such. It reads by the same
 // rules as `scalar`, and leaves to that whatever it does not take. A function here tells the position after what it took; or None, and nothing is done.
 // The laws of the quick way close what is asked of its functions, most of them without an answer.
 #![tactic(auto, using(crate::proofs::Quickly::quick_laws), unfolding(crate::specs::Code::Quick::is_number, crate::specs::Code::Quick::is_taken))]

@@ -15,7 +15,7 @@ use Rattle.values.specs.Scalar.{word_of}
 unfoldable pub is_number : ℕ → Bool
 is_number kind = both (within (2 ‥ 14) kind) (not (eqb kind 11))
 
--- what is taken where it stands: a boolean, a number, a text of 8-bit units; so all from 1 to 16 but FLOAT128 and CHAR16
+-- what is taken where it stands: a boolean, a number, a text of 8-bit units; so all from 1 to 16 but CHAR16 and, but in a list, FLOAT128
 unfoldable pub is_taken : ℕ → Bool
 is_taken kind = both (within (1 ‥ 16) kind) (not (among (11 ∷ 15 ∷ []) kind))
 

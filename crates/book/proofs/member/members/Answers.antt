@@ -1,5 +1,5 @@
 -- `book::member::members` is the run of all members of a type.
-use Rattle.book.proofs.Places.{is_inside, run_start, start_there, start_cut}
+use Rattle.book.proofs.Places.{is_inside, start_there, start_cut}
 use native.Mathlib.Omega.{arith}
 use mathlib.Core.Path.{refl}
 use Rattle.book.proofs.member.members.Goals as goal
@@ -11,7 +11,7 @@ pub pair_there-requires : goal.pair_there-requires
 pair_there-requires c = omega (arith, is_inside _ _ _ _ c.is_there.ensures c.if-is_there.true)
 
 pub returns-then-is_there : goal.returns-then-is_there
-returns-then-is_there c = run_start _ _ refl _ (start_there _ _ _ c.is_there.ensures c.if-is_there.true) c.pair_there.ensures.0 c.pair_there.ensures.1
+returns-then-is_there c = start_there _ _ _ c.is_there.ensures _ c.pair_there.ensures.0 c.pair_there.ensures.1 _ refl refl c.if-is_there.true refl
 
 pub returns : goal.returns
-returns c = run_start _ _ refl _ (start_cut _ _ _ c.is_there.ensures c.if-is_there.false) c.pair_at.ensures.0 c.pair_at.ensures.1
+returns c = start_cut _ _ _ c.is_there.ensures _ c.pair_at.ensures.0 c.pair_at.ensures.1 _ refl refl c.if-is_there.false refl

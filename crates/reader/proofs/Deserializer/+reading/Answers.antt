@@ -19,7 +19,7 @@ use Rattle.reader.proofs.StructureSteps.{fmembers_start, fmembers_turn, fmembers
 use Rattle.reader.proofs.UnionSteps.{union_empty, union_failed, union_read}
 use Rattle.reader.proofs.ValueSteps.{list_unread, list_uncounted, list_there, list_rest}
 use Rattle.reader.proofs.Deserializer.+reading.Goals as goal
-use Rattle.reader.proofs.Deserializer.+reading.Goals.{fmember-then-is_there+then-not-m+in_default+else-opens, fmember-then-is_there+else-not-m, fmember-else-is_there}
+use Rattle.reader.proofs.Deserializer.+reading.Goals.{mmembers-then-opens, mmembers-else-opens, fmember-then-is_there+then-not-m+in_default+else-opens, fmember-then-is_there+else-not-m, fmember-else-is_there}
 
 pub as_nested-loop-i-init : goal.as_nested-loop-i-init
 as_nested-loop-i-init t c = run_start _ _ _ _ _ _ _ _
@@ -262,9 +262,6 @@ mmembers-returns-in_err-m t c = rw (exits c.from_residual.ensures.1) (looked_fai
 pub mmembers-loop-p-preserved-in_default : goal.mmembers-loop-p-preserved-in_default
 mmembers-loop-p-preserved-in_default t c = looked_turn c.loop-p.invariant _ _ c.in-Some.ensures.steps c.mmember.ensures c.in_ok-m.was c.loop-p.invariant.hint
 
-pub mmembers-loop-p-preserved : goal.mmembers-loop-p-preserved
-mmembers-loop-p-preserved t c = looked_turn (found_still c.loop-p.invariant _ _ c.in-Some.ensures.steps _ _ _ _ (found_taken _ _ _ _ _ _ _ _ _ _ _ refl c.kind_found-kind.ensures (c.from-number.ensures ∙ c.id-wanted.ensures) _ _ c.value_at.ensures.0 c.value_at.ensures.1) c.in_default-value_at.is) _ _ c.in-Some.ensures.steps (found_came (found_still c.loop-p.invariant _ _ c.in-Some.ensures.steps _ _ _ _ (found_taken _ _ _ _ _ _ _ _ _ _ _ refl c.kind_found-kind.ensures (c.from-number.ensures ∙ c.id-wanted.ensures) _ _ c.value_at.ensures.0 c.value_at.ensures.1) c.in_default-value_at.is) _ _ c.in-Some.ensures.steps (found_at _ _ _ c.value_at-c.ensures (c.ahead.ensures.found _ (looked_aligned c.loop-p.invariant _ _ c.in-Some.ensures.steps) c.loop-p.invariant.hint _ c.in-Some-ahead.is)) (own_at _ _ _ _ _ c.value_at-c.ensures c.cut.ensures) c.found-read.ensures c.came_back-else-opens.ensures) c.in_ok-m-3.was (hint_on _ _ _ _ c.in-Some-ahead.ahead c.hint_after-h.ensures c.id-wanted.ensures (c.ahead.ensures.on _ c.loop-p.invariant.hint _ c.in-Some-ahead.is))
-
 pub parts-returns-in_default : goal.parts-returns-in_default
 parts-returns-in_default t c = union_empty _ _ _ _ _ _ _ c.members.ensures _ _ _ _ c.in_default.ensures.steps.0
 
@@ -281,16 +278,21 @@ pub mmember-returns-in_err-m-in-Found : goal.mmember-returns-in_err-m-in-Found
 mmember-returns-in_err-m-in-Found t c = rw (exits c.from_residual.ensures.1) (mmember_came _ _ _ _ _ _ _ _ _ _ c.id-wanted.ensures _ (sym (found_at _ _ _ c.value_at-d.ensures (c.look_up.ensures.found _ _ c.in-Found.is))) _ _ _ refl _ (own_at _ _ _ _ _ c.value_at-d.ensures c.cut.ensures) _ _ (found_left _ _ _ _ _ _ _ _ _ _ _ refl c.kind_found-kind.ensures (c.from.ensures ∙ c.id-wanted.ensures) _ _ c.any_at.ensures.quickly c.any_at.ensures.taken c.in_default.is _ _ c.found.ensures) _ (sym c.in_err-m-in-Found.was ∙ c.came_back.ensures))
 
 pub mmembers-overflow_add-m : goal.mmembers-overflow_add-m
-mmembers-overflow_add-m t c = found_next c.loop-p.invariant _ _ c.in-Some.ensures.steps _ _ _ _ (found_taken _ _ _ _ _ _ _ _ _ _ _ refl c.kind_found-kind.ensures (c.from-number.ensures ∙ c.id-wanted.ensures) _ _ c.value_at.ensures.0 c.value_at.ensures.1) c.in-Some-value_at.is c.well_formed.1.0.0
+mmembers-overflow_add-m t c = found_next c.loop-p.invariant _ _ _ _ _ (found_taken _ _ _ _ _ _ _ _ _ _ _ refl c.kind_found-kind.ensures (c.from-number.ensures ∙ c.id-wanted.ensures) _ _ c.value_at.ensures.0 c.value_at.ensures.1) c.in-Some-value_at.is c.well_formed.1.0.0
 
 pub mmembers-loop-p-preserved-in-Some-value_at : goal.mmembers-loop-p-preserved-in-Some-value_at
 mmembers-loop-p-preserved-in-Some-value_at t c = found_quick c.loop-p.invariant _ _ c.in-Some.ensures.steps (found_at _ _ _ c.value_at-c.ensures (c.ahead.ensures.found _ (looked_aligned c.loop-p.invariant _ _ c.in-Some.ensures.steps) c.loop-p.invariant.hint _ c.in-Some-ahead.is)) (own_at _ _ _ _ _ c.value_at-c.ensures c.cut.ensures) _ _ (found_taken _ _ _ _ _ _ _ _ _ _ _ refl c.kind_found-kind.ensures (c.from-number.ensures ∙ c.id-wanted.ensures) _ _ c.value_at.ensures.0 c.value_at.ensures.1) c.in-Some-value_at.is (hint_on _ _ _ _ c.in-Some-ahead.ahead c.hint_after-h.ensures c.id-wanted.ensures (c.ahead.ensures.on _ c.loop-p.invariant.hint _ c.in-Some-ahead.is))
 
-pub mmembers-loop-p-preserved-then-opens : goal.mmembers-loop-p-preserved-then-opens
-mmembers-loop-p-preserved-then-opens t c = looked_turn (found_still c.loop-p.invariant _ _ c.in-Some.ensures.steps _ _ _ _ (found_taken _ _ _ _ _ _ _ _ _ _ _ refl c.kind_found-kind.ensures (c.from-number.ensures ∙ c.id-wanted.ensures) _ _ c.value_at.ensures.0 c.value_at.ensures.1) c.in_default-value_at.is) _ _ c.in-Some.ensures.steps (found_came (found_still c.loop-p.invariant _ _ c.in-Some.ensures.steps _ _ _ _ (found_taken _ _ _ _ _ _ _ _ _ _ _ refl c.kind_found-kind.ensures (c.from-number.ensures ∙ c.id-wanted.ensures) _ _ c.value_at.ensures.0 c.value_at.ensures.1) c.in_default-value_at.is) _ _ c.in-Some.ensures.steps (found_at _ _ _ c.value_at-c.ensures (c.ahead.ensures.found _ (looked_aligned c.loop-p.invariant _ _ c.in-Some.ensures.steps) c.loop-p.invariant.hint _ c.in-Some-ahead.is)) (own_at _ _ _ _ _ c.value_at-c.ensures c.cut.ensures) (found_opened _ _ _ _ _ _ _ _ _ _ _ _ c.type_index-ty.ensures.0 (c.from-number.ensures ∙ c.id-wanted.ensures) c.kind_found-kind.ensures _ c.opens.ensures c.if-opens.true _ _ _ c.as_nested-read.ensures) c.came_back.ensures) c.in_ok-m-2.was (hint_on _ _ _ _ c.in-Some-ahead.ahead c.hint_after-h.ensures c.id-wanted.ensures (c.ahead.ensures.on _ c.loop-p.invariant.hint _ c.in-Some-ahead.is))
+pub mmembers-loop-p-preserved : goal.mmembers-loop-p-preserved
+mmembers-loop-p-preserved t c =
+    elim c.if-opens.branch [
+      | mmembers-then-opens w ↦ looked_turn (found_still c.loop-p.invariant _ _ _ _ _ (found_taken _ _ _ _ _ _ _ _ _ _ _ refl c.kind_found-kind.ensures (c.from-number.ensures ∙ c.id-wanted.ensures) _ _ c.value_at.ensures.0 c.value_at.ensures.1) c.in_default-value_at.is) _ _ c.in-Some.ensures.steps (found_came (found_still c.loop-p.invariant _ _ _ _ _ (found_taken _ _ _ _ _ _ _ _ _ _ _ refl c.kind_found-kind.ensures (c.from-number.ensures ∙ c.id-wanted.ensures) _ _ c.value_at.ensures.0 c.value_at.ensures.1) c.in_default-value_at.is) _ _ c.in-Some.ensures.steps (found_at _ _ _ c.value_at-c.ensures (c.ahead.ensures.found _ (looked_aligned c.loop-p.invariant _ _ c.in-Some.ensures.steps) c.loop-p.invariant.hint _ c.in-Some-ahead.is)) (own_at _ _ _ _ _ c.value_at-c.ensures c.cut.ensures) (rw (w.t-is, w.read-is) (found_opened _ _ _ _ _ _ _ _ _ _ _ _ w.type_index.ensures.0 (c.from-number.ensures ∙ c.id-wanted.ensures) c.kind_found-kind.ensures _ c.opens.ensures w.if-opens.true _ _ _ w.as_nested-read.ensures)) c.came_back.ensures) c.in_ok-m-2.was (hint_on _ _ _ _ c.in-Some-ahead.ahead c.hint_after-h.ensures c.id-wanted.ensures (c.ahead.ensures.on _ c.loop-p.invariant.hint _ c.in-Some-ahead.is))
+      | mmembers-else-opens w ↦ looked_turn (found_still c.loop-p.invariant _ _ _ _ _ (found_taken _ _ _ _ _ _ _ _ _ _ _ refl c.kind_found-kind.ensures (c.from-number.ensures ∙ c.id-wanted.ensures) _ _ c.value_at.ensures.0 c.value_at.ensures.1) c.in_default-value_at.is) _ _ c.in-Some.ensures.steps (found_came (found_still c.loop-p.invariant _ _ _ _ _ (found_taken _ _ _ _ _ _ _ _ _ _ _ refl c.kind_found-kind.ensures (c.from-number.ensures ∙ c.id-wanted.ensures) _ _ c.value_at.ensures.0 c.value_at.ensures.1) c.in_default-value_at.is) _ _ c.in-Some.ensures.steps (found_at _ _ _ c.value_at-c.ensures (c.ahead.ensures.found _ (looked_aligned c.loop-p.invariant _ _ c.in-Some.ensures.steps) c.loop-p.invariant.hint _ c.in-Some-ahead.is)) (own_at _ _ _ _ _ c.value_at-c.ensures c.cut.ensures) (rw (w.t-is, w.read-is) w.found-read.ensures) c.came_back.ensures) c.in_ok-m-2.was (hint_on _ _ _ _ c.in-Some-ahead.ahead c.hint_after-h.ensures c.id-wanted.ensures (c.ahead.ensures.on _ c.loop-p.invariant.hint _ c.in-Some-ahead.is))
+    ]
 
 pub mmembers-returns-in_err-m-2 : goal.mmembers-returns-in_err-m-2
-mmembers-returns-in_err-m-2 t c = rw (exits c.from_residual-in_err-m-2.ensures.1) (looked_failed (found_still c.loop-p.invariant _ _ c.in-Some.ensures.steps _ _ _ _ (found_taken _ _ _ _ _ _ _ _ _ _ _ refl c.kind_found-kind.ensures (c.from-number.ensures ∙ c.id-wanted.ensures) _ _ c.value_at.ensures.0 c.value_at.ensures.1) c.in_default-value_at.is) _ _ c.in-Some.ensures.steps (found_came (found_still c.loop-p.invariant _ _ c.in-Some.ensures.steps _ _ _ _ (found_taken _ _ _ _ _ _ _ _ _ _ _ refl c.kind_found-kind.ensures (c.from-number.ensures ∙ c.id-wanted.ensures) _ _ c.value_at.ensures.0 c.value_at.ensures.1) c.in_default-value_at.is) _ _ c.in-Some.ensures.steps (found_at _ _ _ c.value_at-c.ensures (c.ahead.ensures.found _ (looked_aligned c.loop-p.invariant _ _ c.in-Some.ensures.steps) c.loop-p.invariant.hint _ c.in-Some-ahead.is)) (own_at _ _ _ _ _ c.value_at-c.ensures c.cut.ensures) (found_opened _ _ _ _ _ _ _ _ _ _ _ _ c.type_index-ty.ensures.0 (c.from-number.ensures ∙ c.id-wanted.ensures) c.kind_found-kind.ensures _ c.opens.ensures c.if-opens.true _ _ _ c.as_nested-read.ensures) c.came_back.ensures) _ c.in_err-m-2.was)
-
-pub mmembers-returns-in_err-m-3 : goal.mmembers-returns-in_err-m-3
-mmembers-returns-in_err-m-3 t c = rw (exits c.from_residual-in_err-m-3.ensures.1) (looked_failed (found_still c.loop-p.invariant _ _ c.in-Some.ensures.steps _ _ _ _ (found_taken _ _ _ _ _ _ _ _ _ _ _ refl c.kind_found-kind.ensures (c.from-number.ensures ∙ c.id-wanted.ensures) _ _ c.value_at.ensures.0 c.value_at.ensures.1) c.in_default-value_at.is) _ _ c.in-Some.ensures.steps (found_came (found_still c.loop-p.invariant _ _ c.in-Some.ensures.steps _ _ _ _ (found_taken _ _ _ _ _ _ _ _ _ _ _ refl c.kind_found-kind.ensures (c.from-number.ensures ∙ c.id-wanted.ensures) _ _ c.value_at.ensures.0 c.value_at.ensures.1) c.in_default-value_at.is) _ _ c.in-Some.ensures.steps (found_at _ _ _ c.value_at-c.ensures (c.ahead.ensures.found _ (looked_aligned c.loop-p.invariant _ _ c.in-Some.ensures.steps) c.loop-p.invariant.hint _ c.in-Some-ahead.is)) (own_at _ _ _ _ _ c.value_at-c.ensures c.cut.ensures) c.found-read.ensures c.came_back-else-opens.ensures) _ c.in_err-m-3.was)
+mmembers-returns-in_err-m-2 t c =
+    rw (exits c.from_residual-in_err-m-2.ensures.1) (elim c.if-opens.branch [
+      | mmembers-then-opens w ↦ (looked_failed (found_still c.loop-p.invariant _ _ _ _ _ (found_taken _ _ _ _ _ _ _ _ _ _ _ refl c.kind_found-kind.ensures (c.from-number.ensures ∙ c.id-wanted.ensures) _ _ c.value_at.ensures.0 c.value_at.ensures.1) c.in_default-value_at.is) _ _ c.in-Some.ensures.steps (found_came (found_still c.loop-p.invariant _ _ _ _ _ (found_taken _ _ _ _ _ _ _ _ _ _ _ refl c.kind_found-kind.ensures (c.from-number.ensures ∙ c.id-wanted.ensures) _ _ c.value_at.ensures.0 c.value_at.ensures.1) c.in_default-value_at.is) _ _ c.in-Some.ensures.steps (found_at _ _ _ c.value_at-c.ensures (c.ahead.ensures.found _ (looked_aligned c.loop-p.invariant _ _ c.in-Some.ensures.steps) c.loop-p.invariant.hint _ c.in-Some-ahead.is)) (own_at _ _ _ _ _ c.value_at-c.ensures c.cut.ensures) (rw (w.t-is, w.read-is) (found_opened _ _ _ _ _ _ _ _ _ _ _ _ w.type_index.ensures.0 (c.from-number.ensures ∙ c.id-wanted.ensures) c.kind_found-kind.ensures _ c.opens.ensures w.if-opens.true _ _ _ w.as_nested-read.ensures)) c.came_back.ensures) _ c.in_err-m-2.was)
+      | mmembers-else-opens w ↦ (looked_failed (found_still c.loop-p.invariant _ _ _ _ _ (found_taken _ _ _ _ _ _ _ _ _ _ _ refl c.kind_found-kind.ensures (c.from-number.ensures ∙ c.id-wanted.ensures) _ _ c.value_at.ensures.0 c.value_at.ensures.1) c.in_default-value_at.is) _ _ c.in-Some.ensures.steps (found_came (found_still c.loop-p.invariant _ _ _ _ _ (found_taken _ _ _ _ _ _ _ _ _ _ _ refl c.kind_found-kind.ensures (c.from-number.ensures ∙ c.id-wanted.ensures) _ _ c.value_at.ensures.0 c.value_at.ensures.1) c.in_default-value_at.is) _ _ c.in-Some.ensures.steps (found_at _ _ _ c.value_at-c.ensures (c.ahead.ensures.found _ (looked_aligned c.loop-p.invariant _ _ c.in-Some.ensures.steps) c.loop-p.invariant.hint _ c.in-Some-ahead.is)) (own_at _ _ _ _ _ c.value_at-c.ensures c.cut.ensures) (rw (w.t-is, w.read-is) w.found-read.ensures) c.came_back.ensures) _ c.in_err-m-2.was)
+    ])
