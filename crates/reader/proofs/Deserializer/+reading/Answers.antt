@@ -1,8 +1,9 @@
 -- The functions of the reader's cycle meet their contracts: one law for each way through. Assumes nothing.
-use mathlib.Core.Path.{refl, sym, ◌∙◌}
+use mathlib.Core.Path.{refl, sym, ap, ◌∙◌}
 use native.Mathlib.Omega.{arith}
 use borrow.Author.Rules.{rules}
 use Rattle.ground.proofs.Exits.{exits}
+use Rattle.wire.specs.Ends.{cut_at}
 use Rattle.book.proofs.Places.{is_inside}
 use Rattle.table.proofs.Filling.{full_fits}
 use Rattle.table.proofs.Outcomes.{count_from, count_past}
@@ -239,7 +240,7 @@ pub mmember-overflow_add-result : goal.mmember-overflow_add-result
 mmember-overflow_add-result t c = found_fits _ _ _ _ _ _ _ _ _ _ _ refl c.kind_found-kind.ensures (c.from.ensures ∙ c.id-wanted.ensures) _ _ c.any_at.ensures.quickly c.any_at.ensures.taken c.in-Some.is c.well_formed.1.0.0
 
 pub mmember-returns-in-Some : goal.mmember-returns-in-Some
-mmember-returns-in-Some t c = mmember_came _ _ _ _ _ _ _ _ _ _ c.id-wanted.ensures _ (sym (found_at _ _ _ c.value_at-d.ensures (c.look_up.ensures.found _ _ c.in-Found.is))) _ _ _ refl _ (own_at _ _ _ _ _ c.value_at-d.ensures c.cut.ensures) _ _ (found_done _ _ _ _ _ _ _ _ _ _ _ refl c.kind_found-kind.ensures (c.from.ensures ∙ c.id-wanted.ensures) _ _ c.any_at.ensures.quickly c.any_at.ensures.taken c.in-Some.is _ _) _ (is_back _ _ _)
+mmember-returns-in-Some t c = mmember_came _ _ _ _ _ _ _ _ _ _ c.id-wanted.ensures _ (sym (found_at _ _ _ c.value_at-d.ensures (c.look_up.ensures.found _ _ c.in-Found.is))) _ _ _ refl _ (own_at _ _ _ _ _ c.value_at-d.ensures (c.cut.ensures ∙ ap (cut_at _ _) (grind arith))) _ _ (found_done _ _ _ _ _ _ _ _ _ _ _ refl c.kind_found-kind.ensures (c.from.ensures ∙ c.id-wanted.ensures) _ _ c.any_at.ensures.quickly c.any_at.ensures.taken c.in-Some.is _ _) _ (is_back _ _ _)
 
 pub mmember-returns-in-Absent : goal.mmember-returns-in-Absent
 mmember-returns-in-Absent t c = mmember_absent _ _ _ _ _ _ _ _ _ _ c.id-wanted.ensures _ (sym (c.look_up.ensures.absent c.in-Absent.is)) _ refl
@@ -272,10 +273,10 @@ pub parts-returns : goal.parts-returns
 parts-returns t c = union_read _ _ _ _ _ _ _ c.members.ensures _ _ _ _ _ _ c.in-Some.ensures.steps _ _ c.first.ensures _ _ c.in_ok-d.was _ c.discriminator_at-v.ensures _ _ c.chosen.ensures
 
 pub mmember-returns-in_ok-m-in-Found : goal.mmember-returns-in_ok-m-in-Found
-mmember-returns-in_ok-m-in-Found t c = mmember_came _ _ _ _ _ _ _ _ _ _ c.id-wanted.ensures _ (sym (found_at _ _ _ c.value_at-d.ensures (c.look_up.ensures.found _ _ c.in-Found.is))) _ _ _ refl _ (own_at _ _ _ _ _ c.value_at-d.ensures c.cut.ensures) _ _ (found_left _ _ _ _ _ _ _ _ _ _ _ refl c.kind_found-kind.ensures (c.from.ensures ∙ c.id-wanted.ensures) _ _ c.any_at.ensures.quickly c.any_at.ensures.taken c.in_default.is _ _ c.found.ensures) _ (came_read _ _ c.came_back.ensures c.in_ok-m-in-Found.was)
+mmember-returns-in_ok-m-in-Found t c = mmember_came _ _ _ _ _ _ _ _ _ _ c.id-wanted.ensures _ (sym (found_at _ _ _ c.value_at-d.ensures (c.look_up.ensures.found _ _ c.in-Found.is))) _ _ _ refl _ (own_at _ _ _ _ _ c.value_at-d.ensures (c.cut.ensures ∙ ap (cut_at _ _) (grind arith))) _ _ (found_left _ _ _ _ _ _ _ _ _ _ _ refl c.kind_found-kind.ensures (c.from.ensures ∙ c.id-wanted.ensures) _ _ c.any_at.ensures.quickly c.any_at.ensures.taken c.in_default.is _ _ c.found.ensures) _ (came_read _ _ c.came_back.ensures c.in_ok-m-in-Found.was)
 
 pub mmember-returns-in_err-m-in-Found : goal.mmember-returns-in_err-m-in-Found
-mmember-returns-in_err-m-in-Found t c = rw (exits c.from_residual.ensures.1) (mmember_came _ _ _ _ _ _ _ _ _ _ c.id-wanted.ensures _ (sym (found_at _ _ _ c.value_at-d.ensures (c.look_up.ensures.found _ _ c.in-Found.is))) _ _ _ refl _ (own_at _ _ _ _ _ c.value_at-d.ensures c.cut.ensures) _ _ (found_left _ _ _ _ _ _ _ _ _ _ _ refl c.kind_found-kind.ensures (c.from.ensures ∙ c.id-wanted.ensures) _ _ c.any_at.ensures.quickly c.any_at.ensures.taken c.in_default.is _ _ c.found.ensures) _ (sym c.in_err-m-in-Found.was ∙ c.came_back.ensures))
+mmember-returns-in_err-m-in-Found t c = rw (exits c.from_residual.ensures.1) (mmember_came _ _ _ _ _ _ _ _ _ _ c.id-wanted.ensures _ (sym (found_at _ _ _ c.value_at-d.ensures (c.look_up.ensures.found _ _ c.in-Found.is))) _ _ _ refl _ (own_at _ _ _ _ _ c.value_at-d.ensures (c.cut.ensures ∙ ap (cut_at _ _) (grind arith))) _ _ (found_left _ _ _ _ _ _ _ _ _ _ _ refl c.kind_found-kind.ensures (c.from.ensures ∙ c.id-wanted.ensures) _ _ c.any_at.ensures.quickly c.any_at.ensures.taken c.in_default.is _ _ c.found.ensures) _ (sym c.in_err-m-in-Found.was ∙ c.came_back.ensures))
 
 pub mmembers-overflow_add-m : goal.mmembers-overflow_add-m
 mmembers-overflow_add-m t c = found_next c.loop-p.invariant _ _ _ _ _ (found_taken _ _ _ _ _ _ _ _ _ _ _ refl c.kind_found-kind.ensures (c.from-number.ensures ∙ c.id-wanted.ensures) _ _ c.value_at.ensures.0 c.value_at.ensures.1) c.in-Some-value_at.is c.well_formed.1.0.0
